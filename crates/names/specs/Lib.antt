@@ -1,0 +1,5 @@
+pub mod Same
+pub mod Trim
+pub mod Name
+pub mod Flatten
+pub mod Fixed

@@ -1,0 +1,5 @@
+pub mod Test
+pub mod Reading
+pub mod Cell
+pub mod Passed
+pub mod Ensures

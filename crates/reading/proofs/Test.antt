@@ -1,0 +1,39 @@
+-- What follows from a computed test.
+use mathlib.Core.Path.{_≡_, refl}
+use mathlib.Core.Bool.{Bool, true, false, cond, _&&_, _||_, false≢true}
+use mathlib.Core.List.{List, [], _∷_}
+use Prim.Native.Nat.{ℕ, _≤_, _<_}
+use lib.Dec.{ltb}
+use borrow.Author.Tests.{ltb-true, ltb-false, eqb-true}
+use Rattle.reading.specs.Cells.{isOneOf}
+use lib.Dec.{eqb}
+
+pub by-test : {A : Type 0} (P : A → Type 0) (b : Bool) {x y : A} → (b ≡ true → P x) → (b ≡ false → P y) → P (cond b x y)
+by-test P true f g = f refl
+by-test P false f g = g refl
+
+pub both : (b c : Bool) → b && c ≡ true → (b ≡ true) × (c ≡ true)
+both true c h = (refl, h)
+both false c h = absurd (false≢true h)
+
+pub either : {X : Type 0} (b : Bool) {c : Bool} → b || c ≡ true → (b ≡ true → X) → (c ≡ true → X) → X
+either true h f g = f refl
+either false h f g = g h
+
+pub by-order : {Z : Type 0} (i n : ℕ) → (i < n → Z) → (n ≤ i → Z) → Z
+by-order {Z} i n f g = go (ltb i n) refl
+  where
+    go : (b : Bool) → ltb i n ≡ b → Z
+    go true e = f (ltb-true i n e)
+    go false e = g (ltb-false i n e)
+
+-- A test that each of some characters passes, computed once, holds of one of them.
+abbrev pub allOf : {A : Type 0} → (A → Bool) → List A → Bool
+allOf p [] = true
+allOf p (x ∷ xs) = p x && allOf p xs
+
+pub every : (p : ℕ → Bool) (xs : List ℕ) (c : ℕ) → allOf p xs ≡ true → isOneOf xs c ≡ true → p c ≡ true
+every p [] c h g = absurd (false≢true g)
+every p (x ∷ xs) c h g =
+    let a = both (p x) _ h in
+    either (eqb x c) g (λ e. rw (eqb-true x c e) at (a .0)) (λ k. every p xs c (a .1) k)

@@ -1,0 +1,4 @@
+pub mod Codes
+pub mod Look
+pub mod Cells
+pub mod Span

@@ -1,0 +1,1 @@
+// Parsing contexts and the names that they hold: the definitions are in specs/.

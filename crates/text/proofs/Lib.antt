@@ -1,0 +1,3 @@
+pub mod Scalars
+pub mod Lengths
+pub mod Utf8Cases
