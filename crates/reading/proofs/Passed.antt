@@ -68,6 +68,10 @@ passed p t i h = record {
   out = rw (← cell-drop i t (span p (drop i t))) (span-stops p (drop i t));
 }
 
+-- A run that begins with a cell of the class is not empty.
+pub passed-more : {p : ℕ → Bool} {t : List ℕ} {i j : ℕ} → Passed p t i j → holds p (cellAt t i) ≡ true → i < j
+passed-more {p} {t} {i} {j} d h = omega (arith, past-up p t (suc i), past-in p t i h, d .end)
+
 pub part-none : (t : List ℕ) (i : ℕ) → part t i i ≡ []
 part-none t i = let e : i - i ≡ 0 = omega arith in rw e
 

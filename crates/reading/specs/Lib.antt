@@ -2,3 +2,4 @@ pub mod Codes
 pub mod Look
 pub mod Cells
 pub mod Span
+pub mod Slices

@@ -4,6 +4,7 @@ use mathlib.Core.List.{List, [], _∷_, _++_}
 use Prim.Native.Nat.{ℕ, zero, suc, _+_, _-_, _*_, _%_, _^_}
 use lib.Dec.{leb, ltb, eqb}
 use lib.ListN.{length, take}
+use Rattle.reading.specs.Slices.{front}
 use Rattle.text.specs.Limits.{maxChars, maxBytes}
 use Rattle.text.specs.Refusals.{tooLong, notUtf8, shortSlice}
 use Rattle.text.specs.Ranges.{to, within}
@@ -94,3 +95,8 @@ opening room (chars cs) =
 -- 01: opening checks over 65,536 bytes (1), then 2, 1, 9; the output has room for so many cells.
 abbrev pub openBytes : List ℕ → ℕ → Opened
 openBytes bytes room = cond (ltb maxBytes (length bytes)) (refused tooLong 0) (opening room (decoded bytes))
+
+-- The output after: its front holds the text, or it is as it was.
+abbrev pub openedOutput : Opened → List ℕ → List ℕ
+openedOutput (opened cs) out = front cs out
+openedOutput (refused n p) out = out

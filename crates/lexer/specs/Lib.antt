@@ -1,0 +1,11 @@
+pub mod TokenType
+pub mod Flags
+pub mod Read
+pub mod Skip
+pub mod Number
+pub mod Text
+pub mod Parts
+pub mod Naming
+pub mod Window
+pub mod Token
+pub mod Lexer

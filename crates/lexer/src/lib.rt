@@ -1,0 +1,1 @@
+// The token reader and the token call: the definitions are in specs/.
