@@ -1,1 +1,6 @@
 pub mod Starred
+pub mod Fine
+pub mod SkipFacts
+pub mod NumberFacts
+pub mod StringFacts
+pub mod NameFacts

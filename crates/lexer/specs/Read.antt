@@ -1,8 +1,8 @@
 -- What a token call gives: a token with its value, or a refusal with what it carries.
-use mathlib.Core.Bool.{Bool, true, false, cond, _||_}
+use mathlib.Core.Bool.{Bool, true, false, not}
 use mathlib.Core.List.{List, [], _∷_, _++_}
 use Prim.Native.Nat.{ℕ}
-use lib.ListN.{length}
+use lib.Dec.{eqb}
 use Rattle.reading.specs.Cells.{isOneOf}
 use Rattle.lexer.specs.Flags.{Flags}
 use Rattle.lexer.specs.TokenType
@@ -40,6 +40,10 @@ abbrev pub cellsOf : Read → List ℕ
 cellsOf (token k v) = valueCells v
 cellsOf (refused n c) = []
 
+-- Strings and names.
+abbrev pub textTypes : List ℕ
+textTypes = TokenType.String ∷ TokenType.Name ∷ TokenType.NameDateTime ∷ TokenType.BuiltInTypeName ∷ []
+
 -- 01: YyEof, YyUndef, YyError and refusals end a run.
 abbrev pub lastTypes : List ℕ
 lastTypes = TokenType.YyEof ∷ TokenType.YyUndef ∷ TokenType.YyError ∷ []
@@ -47,3 +51,11 @@ lastTypes = TokenType.YyEof ∷ TokenType.YyUndef ∷ TokenType.YyError ∷ []
 abbrev pub ends : Read → Bool
 ends (token k v) = isOneOf lastTypes k
 ends (refused n c) = true
+
+-- 01: a Boolean stands with the type Boolean, a number with Numeric, and no other token has a value but strings and names.
+abbrev pub hasForm : Read → Bool
+hasForm (token k (truth b)) = eqb k TokenType.Boolean
+hasForm (token k (number before after minus exponent)) = eqb k TokenType.Numeric
+hasForm (token k (chars cs)) = isOneOf textTypes k
+hasForm (token k nothing) = not (isOneOf (TokenType.Boolean ∷ TokenType.Numeric ∷ textTypes) k)
+hasForm (refused n c) = true
