@@ -4,3 +4,4 @@ pub mod SkipFacts
 pub mod NumberFacts
 pub mod StringFacts
 pub mod NameFacts
+pub mod TokenFacts
