@@ -1,5 +1,5 @@
 -- What a token call gives: a token with its value, or a refusal with what it carries.
-use mathlib.Core.Bool.{Bool, true, false, not}
+use mathlib.Core.Bool.{Bool, true, false, _||_, not}
 use mathlib.Core.List.{List, [], _∷_, _++_}
 use Prim.Native.Nat.{ℕ}
 use lib.Dec.{eqb}
@@ -44,18 +44,26 @@ cellsOf (refused n c) = []
 abbrev pub textTypes : List ℕ
 textTypes = TokenType.String ∷ TokenType.Name ∷ TokenType.NameDateTime ∷ TokenType.BuiltInTypeName ∷ []
 
+-- 01's number of what was read: the token type or the refusal.
+abbrev pub isRefused : Read → Bool
+isRefused (token k v) = false
+isRefused (refused n c) = true
+
+abbrev pub numberOf : Read → ℕ
+numberOf (token k v) = k
+numberOf (refused n c) = n
+
 -- 01: YyEof, YyUndef, YyError and refusals end a run.
-abbrev pub lastTypes : List ℕ
-lastTypes = TokenType.YyEof ∷ TokenType.YyUndef ∷ TokenType.YyError ∷ []
+abbrev pub isLast : Bool → ℕ → Bool
+isLast isRefusal n = isRefusal || isOneOf (TokenType.YyEof ∷ TokenType.YyUndef ∷ TokenType.YyError ∷ []) n
 
 abbrev pub ends : Read → Bool
-ends (token k v) = isOneOf lastTypes k
-ends (refused n c) = true
+ends r = isLast (isRefused r) (numberOf r)
 
 -- 01: a Boolean stands with the type Boolean, a number with Numeric, and no other token has a value but strings and names.
 abbrev pub hasForm : Read → Bool
-hasForm (token k (truth b)) = eqb k TokenType.Boolean
-hasForm (token k (number before after minus exponent)) = eqb k TokenType.Numeric
+hasForm (token k (truth b)) = eqb TokenType.Boolean k
+hasForm (token k (number before after minus exponent)) = eqb TokenType.Numeric k
 hasForm (token k (chars cs)) = isOneOf textTypes k
 hasForm (token k nothing) = not (isOneOf (TokenType.Boolean ∷ TokenType.Numeric ∷ textTypes) k)
 hasForm (refused n c) = true

@@ -1,0 +1,1 @@
+// Runs of items and their repair after an edit: the definitions are in specs/.
