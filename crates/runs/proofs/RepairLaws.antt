@@ -116,29 +116,29 @@ module _ (tok : Reader) (old new : List ℕ) (e : Edit)
       run-kept {p} {f} (last h) q = by-test (Runs tok new p f) _ (λ g. last-is (item-kept p f (leb-true _ _ g)) h) (λ g. run-fresh p f (rw g at q))
       run-kept {p} {f} (more h r) q = by-test (Runs tok new p f) _ (λ g. more-is (item-kept p f (leb-true _ _ g)) h (run-kept r (rw g at q))) (λ g. run-fresh p f (rw g at q))
 
-module _ (tok : Reader) (sound : IsSound tok) (k : ℕ) (f : Flags) (old put : List ℕ) (a b : ℕ) (ordered : a ≤ b) (within : b ≤ length old) where
-  abbrev pub change : Edit
-  change = record { from = a; to = b; size = length put }
+abbrev change : List ℕ → ℕ → ℕ → Edit
+change put a b = record { from = a; to = b; size = length put }
 
+module _ (old put : List ℕ) (a b : ℕ) (ordered : a ≤ b) (within : b ≤ length old) where
   cells-before : (i : ℕ) → i < a → cellAt old i ≡ cellAt (edited old a b put) i
   cells-before i l =
       cell-take a old i l
       ∙ sym (cell-append (take a old) (put ++ drop b old) i (omega (arith, length-take-le a old (omega arith))))
       ∙ rw append-assoc
 
-  text-behind : (q : ℕ) → b ≤ q → drop (moved change q) (edited old a b put) ≡ drop q old
+  text-behind : (q : ℕ) → b ≤ q → drop (moved (change put a b) q) (edited old a b put) ≡ drop q old
   text-behind q l =
-      let here : moved change q ≡ length (take a old ++ put) + (q - b) = omega (arith, length-append (take a old) put, length-take-le a old (omega arith)) in
+      let here : moved (change put a b) q ≡ length (take a old ++ put) + (q - b) = omega (arith, length-append (take a old) put, length-take-le a old (omega arith)) in
       let there : b + (q - b) ≡ q = omega arith in
       ap (λ n. drop n (edited old a b put)) here ∙ drop-append-add (take a old ++ put) (drop b old) (q - b) ∙ drop-drop (q - b) b old ∙ ap (λ n. drop n old) there
 
-  pub edited-length : length (edited old a b put) ≡ moved change (length old)
+  pub edited-length : length (edited old a b put) ≡ moved (change put a b) (length old)
   edited-length = omega (arith, length-append (take a old ++ put) (drop b old), length-append (take a old) put, length-take-le a old (omega arith), length-drop b old)
 
   -- For every reader that is sound: the repaired items are those of a run of the new text.
-  module _ (limit : length old ≤ maxChars) (limit′ : length (edited old a b put) ≤ maxChars) where
+  module _ (tok : Reader) (sound : IsSound tok) (k : ℕ) (f : Flags) (limit : length old ≤ maxChars) (limit′ : length (edited old a b put) ≤ maxChars) where
     pub items-repaired : let new = edited old a b put in
-        repairItems tok change (runItems tok k f old) (drop (lastKept change (runItems tok k f old) 0) new) ≡ runItems tok k f new
+        repairItems tok (change put a b) (runItems tok k f old) (drop (lastKept (change put a b) (runItems tok k f old) 0) new) ≡ runItems tok k f new
     unfolding repairedFrom
     items-repaired = go (endsRun (startItem k f))
       where
@@ -146,12 +146,12 @@ module _ (tok : Reader) (sound : IsSound tok) (k : ℕ) (f : Flags) (old put : L
         new = edited old a b put
 
         go : (c : Bool) → let was = startItem k f ∷ cond c [] (items tok (length old + 1) old 0 f) in
-            repairItems tok change was (drop (lastKept change was 0) new) ≡ startItem k f ∷ cond c [] (items tok (length new + 1) new 0 f)
+            repairItems tok (change put a b) was (drop (lastKept (change put a b) was 0) new) ≡ startItem k f ∷ cond c [] (items tok (length new + 1) new 0 f)
         go true = refl
         go false =
             let was = complete tok sound old limit 0 f in
             ap (λ is. startItem k f ∷ is)
             (same-run
-            (run-kept tok old new change cells-before text-behind _ (λ p g. rest-found tok old new change cells-before text-behind (startItem k f) p g was) _
-            (complete tok sound _ (omega (arith, length-drop (lastKept change (startItem k f ∷ items tok (length old + 1) old 0 f) 0) new)) 0) was (rw (leb·zero a)))
+            (run-kept tok old new (change put a b) cells-before text-behind _ (λ p g. rest-found tok old new (change put a b) cells-before text-behind (startItem k f) p g was) _
+            (complete tok sound _ (omega (arith, length-drop (lastKept (change put a b) (startItem k f ∷ items tok (length old + 1) old 0 f) 0) new)) 0) was (rw (leb·zero a)))
             (complete tok sound new limit′ 0 f))
