@@ -2,11 +2,12 @@
 use mathlib.Core.Path.{_≡_, refl}
 use mathlib.Core.Bool.{Bool, true, false, cond, _&&_, _||_, false≢true}
 use mathlib.Core.List.{List, [], _∷_}
-use Prim.Native.Nat.{ℕ, _≤_, _<_}
-use lib.Dec.{ltb}
+use Prim.Native.Nat.{ℕ, zero, suc, _≤_, _<_}
+use native.Mathlib.Nat.{not-suc-le-zero}
+use native.Mathlib.Omega.{arith}
+use lib.Dec.{ltb, eqb}
 use borrow.Author.Tests.{ltb-true, ltb-false, eqb-true}
 use Rattle.reading.specs.Cells.{isOneOf}
-use lib.Dec.{eqb}
 
 pub by-test : {A : Type 0} (P : A → Type 0) (b : Bool) {x y : A} → (b ≡ true → P x) → (b ≡ false → P y) → P (cond b x y)
 by-test P true f g = f refl
@@ -26,6 +27,17 @@ by-order {Z} i n f g = go (ltb i n) refl
     go : (b : Bool) → ltb i n ≡ b → Z
     go true e = f (ltb-true i n e)
     go false e = g (ltb-false i n e)
+
+-- A test that every number below n passes, computed once, holds of each of them.
+abbrev pub allBelow : (ℕ → Bool) → ℕ → Bool
+allBelow p zero = true
+allBelow p (suc n) = p n && allBelow p n
+
+pub below : (p : ℕ → Bool) (n : ℕ) → allBelow p n ≡ true → (k : ℕ) → k < n → p k ≡ true
+below p zero h k l = absurd (not-suc-le-zero l)
+below p (suc n) h k l =
+    let b = both (p n) _ h in
+    by-order k n (λ m. below p n (b .1) k m) (λ m. let e : n ≡ k = omega arith in rw e at (b .0))
 
 -- A test that each of some characters passes, computed once, holds of one of them.
 abbrev pub allOf : {A : Type 0} → (A → Bool) → List A → Bool

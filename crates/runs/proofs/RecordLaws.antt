@@ -1,16 +1,19 @@
--- Writing a record and reading it back gives its items, whatever lies behind the used store.
+-- Writing a record and reading it back are inverse, whatever lies behind the used store.
 use mathlib.Core.Path.{_≡_, refl, sym, ap, _∙_}
 use mathlib.Core.Bool.{Bool, true, false, _&&_}
 use mathlib.Core.List.{List, [], _∷_, _++_, map, append-assoc}
-use Prim.Native.Nat.{ℕ, _+_}
-use lib.Dec.{eqb}
-use lib.ListN.{length, take, drop, length-append}
-use lib.Seq.{take-append-seam, drop-append-seam}
-use Rattle.reading.proofs.Test.{both}
+use Prim.Native.Nat.{ℕ, suc, _+_, _-_, _≤_, _<_}
+use native.Mathlib.Omega.{arith}
+use lib.Dec.{leb, eqb}
+use borrow.Author.Tests.{leb-true, eqb-true}
+use lib.ListN.{length, getD, take, drop, length-append, length-take, length-drop, drop-of-length-le}
+use lib.Seq.{take-append-seam, drop-append-seam, drop-cons}
+use Rattle.reading.proofs.Test.{both, below}
 use Rattle.lexer.specs.Flags.{Flags}
 use Rattle.runs.specs.Item.{Item, bit}
 use Rattle.runs.specs.Repair.{sameFlags}
-use Rattle.runs.specs.Record.{flagBits, bitFlags, Record, rowOf, rowsFrom, storeOf, itemOf, unpack}
+use Rattle.runs.specs.Record.{flagBits, bitFlags, Record, refusedAt, flagsAt, startAt, lengthAt, rowOf, rowsFrom, storeOf, itemOf, unpack}
+use Rattle.runs.specs.Request.{hasKind, isRow}
 use Rattle.runs.proofs.RepairLaws.{same-flags}
 
 bit-back : (b : Bool) → eqb (bit b) 1 ≡ b
@@ -60,3 +63,25 @@ module _ (behind : List ℕ) where
 
   pub unpacked : (is : List Item) → unpack (record { rows = rowsFrom 0 is; store = storeOf is ++ behind }) ≡ is
   unpacked is = items-back [] is
+
+-- The other way round: a row of an accepted record is written again as it was read.
+bit-again : (n : ℕ) → n ≤ 1 → bit (eqb n 1) ≡ n
+bit-again n h = eqb-true _ _ (below (λ n. eqb (bit (eqb n 1)) n) 2 refl n (omega arith))
+
+bits-again : (n : ℕ) → n ≤ 31 → flagBits (bitFlags n) ≡ n
+bits-again n h = eqb-true _ _ (below (λ n. eqb (flagBits (bitFlags n)) n) 32 refl n (omega arith))
+
+-- A row of eleven is its eleven places.
+module _ (r : List ℕ) (eleven : length r ≡ 11) where
+  cell : (j : ℕ) {xs : List ℕ} → j < 11 → drop (suc j) r ≡ xs → drop j r ≡ getD r j 0 ∷ xs
+  cell j h e = drop-cons r j 0 (omega arith) ∙ ap (λ xs. getD r j 0 ∷ xs) e
+
+  row-places : r ≡ getD r 0 0 ∷ getD r 1 0 ∷ getD r 2 0 ∷ getD r 3 0 ∷ getD r 4 0 ∷ getD r 5 0 ∷ getD r 6 0 ∷ getD r 7 0 ∷ getD r 8 0 ∷ getD r 9 0 ∷ getD r 10 0 ∷ []
+  row-places = cell 0 (omega arith) (cell 1 (omega arith) (cell 2 (omega arith) (cell 3 (omega arith) (cell 4 (omega arith) (cell 5 (omega arith) (cell 6 (omega arith)
+      (cell 7 (omega arith) (cell 8 (omega arith) (cell 9 (omega arith) (cell 10 (omega arith) (drop-of-length-le r {i = 11} (omega arith))))))))))))
+
+  pub row-again : (store : List ℕ) → isRow r ≡ true → getD r startAt 0 + getD r lengthAt 0 ≤ length store → rowOf (getD r startAt 0) (itemOf store r) ≡ r
+  row-again store h l =
+      let small = both (leb (getD r refusedAt 0) 1) (leb (getD r flagsAt 0) 31) (both (leb (getD r refusedAt 0) 1 && leb (getD r flagsAt 0) 31) (hasKind r) h .0) in
+      let size : length (take (getD r lengthAt 0) (drop (getD r startAt 0) store)) ≡ getD r lengthAt 0 = simp (length-take, length-drop) (omega arith) in
+      rw (bit-again (getD r refusedAt 0) (leb-true _ _ (small .0)), bits-again (getD r flagsAt 0) (leb-true _ _ (small .1)), size) (sym row-places)

@@ -2,9 +2,10 @@
 use mathlib.Core.Path.{_≡_, refl}
 use mathlib.Core.Bool.{Bool, true, false, _&&_, _||_, not}
 use mathlib.Core.List.{List, [], _∷_}
-use Prim.Native.Nat.{ℕ, zero, suc}
+use Prim.Native.Nat.{ℕ, _<_}
 use lib.Dec.{eqb}
 use lib.ListN.{length, getD}
+use Rattle.reading.proofs.Test.{below}
 use Rattle.text.specs.Ranges.{within}
 use Rattle.text.specs.Utf8.{leadingOnes, sequenceLength, wellFormedRows}
 
@@ -13,10 +14,6 @@ unfoldable pub agrees : List (List (List ℕ)) → ℕ → Bool
 agrees [] b = true
 agrees (r ∷ rs) b = (not (within (getD r 0 []) b) || eqb (length r) (sequenceLength b)) && agrees rs b
 
-unfoldable pub agreesBelow : ℕ → Bool
-agreesBelow zero = true
-agreesBelow (suc b) = agreesBelow b && agrees wellFormedRows b
-
-pub lengths-agree : agreesBelow 256 ≡ true
-unfolding agreesBelow agrees wellFormedRows leadingOnes
-lengths-agree = refl
+pub lengths-agree : (b : ℕ) → b < 256 → agrees wellFormedRows b ≡ true
+unfolding agrees wellFormedRows leadingOnes
+lengths-agree = below (agrees wellFormedRows) 256 refl
