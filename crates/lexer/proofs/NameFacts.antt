@@ -21,13 +21,12 @@ use Rattle.text.specs.Classes.{isWhitespace, isNamePart, isWhite, isSymbol}
 use Rattle.names.specs.Same.{same, member}
 use Rattle.names.specs.Trim.{trim}
 use Rattle.names.specs.Name.{isSymbolText, led, joined, newName}
-use Rattle.names.specs.Flatten.{flatten}
 use Rattle.names.specs.Fixed.{typeNames, temporalNames}
 use Rattle.names.proofs.Shorter.{trim-length, led-length, led-symbol}
 use Rattle.lexer.specs.Flags.{Flags}
 use Rattle.lexer.specs.Read.{Read, token, Outcome, hasForm}
 use Rattle.lexer.specs.Parts.{Part, part, walk}
-use Rattle.lexer.specs.Naming.{texts, nameOf, endOf, startsWith, withPart, beforeIn, longest, isFound, allParts, byPrefix, byIn, cutName, readName}
+use Rattle.lexer.specs.Naming.{texts, nameOf, endOf, startsWith, withPart, beforeIn, fits, longest, isFound, allParts, byPrefix, byIn, cutName, readName}
 use Rattle.lexer.specs.TokenType
 use Rattle.lexer.proofs.Fine.{Fine, over, fine}
 use Rattle.lexer.proofs.SkipFacts.{far}
@@ -153,7 +152,7 @@ module _ (n lo hi from : ℕ) (within : hi ≤ n) where
   module _ (f : Flags) (isName : List ℕ → Bool) (start : ℕ) (begins : start ≤ n) (p : Part) (ps : List Part) (next : Option ℕ) (all : Ends lo hi true from (p ∷ ps)) where
     longest-prefix : (found : List ℕ → Bool) (m : ℕ) → Prefix (longest found (p ∷ ps) m)
     longest-prefix found zero = tt
-    longest-prefix found (suc m) = by-test Prefix (found (flatten (texts (take (suc m) (p ∷ ps)))))
+    longest-prefix found (suc m) = by-test Prefix (fits found (take (suc m) (p ∷ ps)))
         (λ _. ends-take lo hi true from (suc m) (p ∷ ps) all) (λ _. longest-prefix found m)
 
     all-parts : Named (allParts f isName start (p ∷ ps) next hi)

@@ -25,7 +25,7 @@ use Rattle.lexer.specs.Flags.{Flags}
 use Rattle.lexer.specs.Read.{Read, token, refused, Value, nothing, truth, number, chars, Outcome, valueCells, cellsOf, ends, hasForm}
 use Rattle.lexer.specs.Number.{readNumber}
 use Rattle.lexer.specs.Window.{shown, window, Follow, anything, next, ahead, Row, words, symbols, taken, leads, isFollowed, firstOf}
-use Rattle.lexer.specs.Token.{otherCases, cases, tokenWith, readToken}
+use Rattle.lexer.specs.Token.{otherCases, cases, tokenWith, fuel, readToken}
 use Rattle.lexer.proofs.Fine.{Fine, over, fine, lower}
 use Rattle.lexer.proofs.SkipFacts.{far, blanks-pass, skips}
 use Rattle.lexer.proofs.NumberFacts.{numbers-digit, numbers-point}
@@ -144,11 +144,11 @@ pub record Sound (n : ℕ) (s : Seen Outcome) : Type 0 where
 
 module _ (isName : List ℕ → Bool) (f : Flags) (t : List ℕ) (limit : length t ≤ maxChars) where
   facts : Fine (length t) 1 ((run t (readToken isName f)) .answer .read) ((run t (readToken isName f)) .answer .used)
-  facts = tokens t (maxChars + 1) (maxChars + 1) (omega arith) (omega arith) isName f .holding
+  facts = tokens t fuel fuel (omega arith) (omega arith) isName f .holding
 
   -- Within the limits more fuel changes no reading, so that its number need not be trusted.
-  pub any-fuel : (k : ℕ) → maxChars + 1 ≤ k → run t (tokenWith k isName f) ≡ run t (readToken isName f)
-  any-fuel k h = tokens t k (maxChars + 1) (omega arith) (omega arith) isName f .same 0
+  pub any-fuel : (k : ℕ) → fuel ≤ k → run t (tokenWith k isName f) ≡ run t (readToken isName f)
+  any-fuel k h = tokens t k fuel (omega arith) (omega arith) isName f .same 0
 
 -- What a token used it has looked at: over the text cut at its reach it reads the same.
 used-looked : (isName : List ℕ → Bool) (f : Flags) (t : List ℕ) → length t ≤ maxChars → (run t (readToken isName f)) .answer .used ≤ (run t (readToken isName f)) .reach
@@ -162,7 +162,7 @@ pub sound : (isName : List ℕ → Bool) (f : Flags) (t : List ℕ) → length t
 sound isName f t limit = let w = facts isName f t limit in record {
   inText = w .inText;
   looked = used-looked isName f t limit;
-  near = tokens t (maxChars + 1) (maxChars + 1) (omega arith) (omega arith) isName f .near;
+  near = tokens t fuel fuel (omega arith) (omega arith) isName f .near;
   short = w .short;
   onward = w .onward;
   formed = w .formed;

@@ -43,10 +43,14 @@ abbrev pub beforeIn : List Part → Option (List Part)
 beforeIn [] = none
 beforeIn (p ∷ ps) = cond (same (p .cells) (codes "in")) (some []) (withPart p (beforeIn ps))
 
--- The longest prefix of at most n parts whose flattening is found.
+-- The parts' flattening is found.
+abbrev pub fits : (List ℕ → Bool) → List Part → Bool
+fits found ps = found (flatten (texts ps))
+
+-- The longest prefix of at most n parts that fits.
 abbrev pub longest : (List ℕ → Bool) → List Part → ℕ → Option (List Part)
 longest found ps zero = none
-longest found ps (suc n) = cond (found (flatten (texts (take (suc n) ps)))) (some (take (suc n) ps)) (longest found ps n)
+longest found ps (suc n) = cond (fits found (take (suc n) ps)) (some (take (suc n) ps)) (longest found ps n)
 
 -- Under `after_dot` the text is a property; a text that is a scope name, too, counts as a property.
 abbrev pub isProperty : Flags → List ℕ → Bool
@@ -66,7 +70,7 @@ module _ (f : Flags) (isName : List ℕ → Bool) (start : ℕ) (ps : List Part)
   -- By the longest prefix found. A property match clears `after_dot`, a scope match clears nothing.
   abbrev pub byPrefix : Option (List Part) → Outcome
   byPrefix none = allParts
-  byPrefix (some qs) = outcome (token TokenType.Name (nameOf qs)) (endOf qs) (cond (isProperty f (flatten (texts qs))) (clear AfterDot f) f)
+  byPrefix (some qs) = outcome (token TokenType.Name (nameOf qs)) (endOf qs) (cond (fits (isProperty f) qs) (clear AfterDot f) f)
 
   -- By the parts before `in`: with none of them it is 8, at the first part.
   abbrev pub byIn : Option (List Part) → Outcome

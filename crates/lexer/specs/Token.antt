@@ -52,5 +52,8 @@ tokenWith fuel isName f = do
   done (outcome (o .read) (o .used) (clear UnaryTests (o .flags)))
 
 -- One turn more than a text has characters.
+abbrev pub fuel : ℕ
+fuel = maxChars + 1
+
 abbrev pub readToken : (List ℕ → Bool) → Flags → Look Outcome
-readToken isName f = tokenWith (maxChars + 1) isName f
+readToken isName f = tokenWith fuel isName f

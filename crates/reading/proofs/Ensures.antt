@@ -6,7 +6,7 @@ use mathlib.Core.List.{List, [], _∷_}
 use Prim.Native.Nat.{ℕ, zero, suc, _+_, _-_, _≤_, _<_, max}
 use native.Mathlib.Omega.{arith}
 use lib.ListN.{length}
-use Rattle.reading.specs.Look.{cellAt, Look, done, ask, _>>=_, Seen, runFrom, run}
+use Rattle.reading.specs.Look.{cellAt, Look, done, ask, _>>=_, Seen, runFrom, run, reaching}
 use Rattle.reading.specs.Cells.{maybe, holds}
 use Rattle.reading.specs.Span.{gather, past, part}
 use Rattle.reading.proofs.Test.{by-order}
@@ -27,9 +27,9 @@ module _ {A : Type 0} {t : List ℕ} {far : ℕ} {P : A → Type 0} where
 
   pub asks : {i : ℕ} {f f′ : Option ℕ → Look A} → i < far → Ensures t far P (f (cellAt t i)) (f′ (cellAt t i)) → Ensures t far P (ask i f) (ask i f′)
   asks {i = i} {f} {f′} l h = record {
-    holding = subst P (same-answer t 0 (max 0 (i + 1)) (f (cellAt t i))) (h .holding);
-    near = omega (arith, reach-apart t (max 0 (i + 1)) (f (cellAt t i)), h .near);
-    same = λ r. h .same (max r (i + 1));
+    holding = subst P (same-answer t 0 (reaching 0 i) (f (cellAt t i))) (h .holding);
+    near = omega (arith, reach-apart t (reaching 0 i) (f (cellAt t i)), h .near);
+    same = λ r. h .same (reaching r i);
   }
 
   -- A look, by whether a cell is there.

@@ -9,7 +9,7 @@ use native.Mathlib.Numerals.{add-one}
 use native.Mathlib.Omega.{arith}
 use lib.ListN.{length, getD, take, drop, length-take, length-drop}
 use lib.Seq.{drop-nil, drop-cons}
-use Rattle.reading.specs.Look.{cellAt, Look, done, ask, _>>=_, Seen, runFrom}
+use Rattle.reading.specs.Look.{cellAt, Look, done, ask, _>>=_, Seen, runFrom, reaching}
 use Rattle.reading.specs.Cells.{maybe, holds}
 use Rattle.reading.specs.Span.{gather, span, past, part}
 use Rattle.reading.proofs.Test.{by-test, by-order}
@@ -90,12 +90,12 @@ pub gathered : (p : ℕ → Bool) (t : List ℕ) (f i r : ℕ) → length t - i 
 unfolding gather
 gathered p t zero i r h = absurd (not-suc-le-zero h)
 gathered p t (suc f) i r h = by-order i (length t)
-    (λ l. rw (cell-in t i l, runFrom) (by-test (λ m. runFrom t (max r (i + 1)) m ≡ gathering t i (past p t i) (max r (past p t i + 1))) (p (getD t i 0))
+    (λ l. rw (cell-in t i l, runFrom) (by-test (λ m. runFrom t (reaching r i) m ≡ gathering t i (past p t i) (max r (past p t i + 1))) (p (getD t i 0))
     (λ e.
     let n = past-in p t i (rw (cell-in t i l) e) in
     let u = past-up p t (suc i) in
-    let m : max (max r (i + 1)) (past p t (suc i) + 1) ≡ max r (past p t (suc i) + 1) = omega arith in
-    run-bind t (max r (i + 1)) (gather p f (suc i)) _
-    ∙ rw (gathered p t f (suc i) (max r (i + 1)) (omega arith), n, m, part-more t i (past p t (suc i)) l (omega arith)))
+    let m : max (reaching r i) (past p t (suc i) + 1) ≡ max r (past p t (suc i) + 1) = omega arith in
+    run-bind t (reaching r i) (gather p f (suc i)) _
+    ∙ rw (gathered p t f (suc i) (reaching r i) (omega arith), n, m, part-more t i (past p t (suc i)) l (omega arith)))
     (λ e. let n = past-out p t i (rw (cell-in t i l) e) in rw (n, part-none))))
     (λ l. let n = past-out p t i (rw (cell-out t i l) refl) in rw (cell-out t i l, runFrom, n, part-none))

@@ -27,10 +27,14 @@ pub record Seen (A : Type 0) : Type 0 where
   pub answer : A
   pub reach : ℕ
 
--- Reads a text, r being the reach so far. 01: reach is one more than the largest index asked for, the end included; 0 if none was.
+-- 01: reach is one more than the largest index asked for, the end included; 0 if none was. Here after asking for i, the reach so far being r.
+abbrev pub reaching : ℕ → ℕ → ℕ
+reaching r i = max r (i + 1)
+
+-- Reads a text, r being the reach so far.
 abbrev pub runFrom : {A : Type 0} → List ℕ → ℕ → Look A → Seen A
 runFrom t r (done a) = record { answer = a; reach = r }
-runFrom t r (ask i f) = runFrom t (max r (i + 1)) (f (cellAt t i))
+runFrom t r (ask i f) = runFrom t (reaching r i) (f (cellAt t i))
 
 abbrev pub run : {A : Type 0} → List ℕ → Look A → Seen A
 run t m = runFrom t 0 m

@@ -7,7 +7,6 @@ use native.Mathlib.Omega.{arith}
 use lib.Dec.{leb, ltb, eqb}
 use borrow.Author.Tests.{leb-true, le-ltb, ltb-false, eq-eqb}
 use lib.ListN.{length, drop, length-drop}
-use Rattle.reading.specs.Look.{run}
 use Rattle.reading.proofs.Test.{by-test}
 use Rattle.text.specs.Limits.{maxChars}
 use Rattle.text.specs.Refusals.{brokenRequest}

@@ -9,16 +9,16 @@ use lib.Dec.{leb, eqb, leb·zero}
 use borrow.Author.Tests.{leb-true, eqb-true}
 use lib.ListN.{length, take, drop, length-append, length-drop}
 use lib.Seq.{drop-append-add, drop-drop, length-take-le}
-use Rattle.reading.specs.Look.{cellAt, Seen, run}
+use Rattle.reading.specs.Look.{cellAt, Seen}
 use Rattle.reading.specs.Cells.{maybe}
 use Rattle.reading.proofs.Test.{by-test, both}
 use Rattle.reading.proofs.Reading.{locality}
 use Rattle.reading.proofs.Cell.{cell-drop, cell-take, cell-append}
 use Rattle.text.specs.Limits.{maxChars}
 use Rattle.lexer.specs.Flags.{Flags}
-use Rattle.lexer.specs.Read.{Outcome}
-use Rattle.runs.specs.Item.{Item, endsRun}
-use Rattle.runs.specs.Run.{Reader, placed, itemAt, items, startItem, runItems}
+use Rattle.lexer.specs.Read.{Read, Outcome}
+use Rattle.runs.specs.Item.{Item, item, endsRun}
+use Rattle.runs.specs.Run.{Reader, placed, seen, itemAt, items, startItem, runItems}
 use Rattle.runs.specs.Edit.{Edit, edited, moved, movedItem}
 use Rattle.runs.specs.Repair.{sameFlags, isMatch, oldRest, followed, freshItems, isKept, lastKept, repairedFrom, repairItems}
 use Rattle.runs.proofs.RunLaws.{Runs, last, more, same-run, last-is, more-is, IsSound, complete}
@@ -50,16 +50,17 @@ matched e i p f h =
     let a = both _ _ (b .0) in
     (leb-true _ _ (a .0), eqb-true _ _ (a .1), same-flags _ _ (b .1))
 
+same-item : (r : Read) (f : Flags) {p p′ q q′ : ℕ} → p ≡ p′ → q ≡ q′ → item r p f q ≡ item r p′ f q′
+same-item r f g h = rw (g, h)
+
 -- Translation: behind the edit a token call gives the same, moved.
 placed-moved : (e : Edit) (q : ℕ) → e .to ≤ q → (s : Seen Outcome) → placed (moved e q) s ≡ movedItem e (placed q s)
 placed-moved e q h s =
-    let place : moved e q + s .answer .used ≡ moved e (q + s .answer .used) = omega arith in
-    let far : moved e q + s .reach ≡ moved e (q + s .reach) = omega arith in
-    rw (place, far)
+    same-item (s .answer .read) (s .answer .flags) (omega arith) (omega arith)
 
 module _ (tok : Reader) (old new : List ℕ) (e : Edit) (back : (q : ℕ) → e .to ≤ q → drop (moved e q) new ≡ drop q old) where
   item-moved : (q : ℕ) (f : Flags) → e .to ≤ q → itemAt tok new (moved e q) f ≡ movedItem e (itemAt tok old q f)
-  item-moved q f h = ap (λ t. placed (moved e q) (run t (tok f))) (back q h) ∙ placed-moved e q h (run (drop q old) (tok f))
+  item-moved q f h = ap (λ t. placed (moved e q) (seen tok t f)) (back q h) ∙ placed-moved e q h (seen tok (drop q old) f)
 
   run-moved : {q : ℕ} {f : Flags} {is : List Item} → Runs tok old q f is → e .to ≤ q → Runs tok new (moved e q) f (map (movedItem e) is)
   run-moved {q} {f} (last h) g = last-is (item-moved q f g) h

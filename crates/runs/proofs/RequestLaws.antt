@@ -7,7 +7,6 @@ use native.Mathlib.Omega.{arith}
 use lib.Dec.{leb, ltb, eqb}
 use borrow.Author.Tests.{le-leb, lt-ltb, eq-eqb, eqb-true, not-true}
 use lib.ListN.{length, drop, length-append, length-drop}
-use Rattle.reading.specs.Look.{run}
 use Rattle.reading.specs.Cells.{isOneOf}
 use Rattle.reading.proofs.Test.{by-test, both, every}
 use Rattle.text.specs.Limits.{maxChars}
@@ -16,7 +15,7 @@ use Rattle.lexer.specs.Read.{Read, token, refused, Value, nothing, truth, numbe
 use Rattle.lexer.specs.Lexer.{startTypes, startRead}
 use Rattle.lexer.specs.TokenType
 use Rattle.runs.specs.Item.{Item, item, bit, endsRun}
-use Rattle.runs.specs.Run.{Reader, itemAt, items, startItem, runItems}
+use Rattle.runs.specs.Run.{Reader, seen, itemAt, items, startItem, runItems}
 use Rattle.runs.specs.Record.{flagBits, Record, rowOf, rowsFrom, storeOf}
 use Rattle.runs.specs.Request.{hasKind, isRow, rowFits, rowsFit, recordFits}
 use Rattle.runs.proofs.RunLaws.{Runs, last, more, IsSound, complete, item-count}
@@ -67,7 +66,7 @@ module _ (tok : Reader) (sound : IsSound tok) (t : List ℕ) (limit : length t �
   item-fits p f m at h d =
       let l = length-drop p t in
       let s = sound (drop p t) f (omega arith) in
-      let o = (run (drop p t) (tok f)) .answer in
+      let o = seen tok (drop p t) f .answer in
       row-fits (length t) m at p (o .read) _ (o .flags) _ (s .formed) (omega (arith, s .inText)) (omega (arith, s .looked)) (omega (arith, s .near)) d (omega (arith, s .short))
 
   refused-back : (i : Item) → eqb (bit (i .isRefusal)) 1 ≡ i .isRefusal

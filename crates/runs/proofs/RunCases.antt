@@ -31,64 +31,51 @@ use Rattle.runs.specs.Edit.{Edit, edited}
 use Rattle.runs.specs.Repair.{oldRest, followed, lastKept, repairedFrom, repairItems}
 use Rattle.runs.specs.Print.{digitsIn, lines, printed}
 
-pub record Case : Type 0 where
-  pub input : String
-  pub output : String
-
-abbrev pub cases : List Case
-cases =
-    record { input = ".5"; output = "0 258 0 0 -\n1 287 2 12 0/5/+/\n2 0 2 14 -\n" }
-    ∷ record { input = "1.25e-30"; output = "0 258 0 0 -\n1 287 8 12 1/25/-/30\n2 0 8 20 -\n" }
-    ∷ record { input = "true"; output = "0 258 0 0 -\n1 289 4 12 true\n2 0 4 16 -\n" }
-    ∷ record { input = "a // b"; output = "0 258 0 0 -\n1 310 6 12 =61,2F,2F,62\n2 0 6 18 -\n" }
-    ∷ record { input = "\"\""; output = "0 258 0 0 -\n1 288 2 12 =\n2 0 2 14 -\n" }
-    ∷ record { input = "\"abcdefghijk\\uDC00\""; output = "0 258 0 0 -\n1 R5 18 18 DC00\n" }
-    ∷ record { input = "\"abcdefghijk\\uD83D\""; output = "0 258 0 0 -\n1 R7 18 20 -\n" }
-    ∷ record { input = "range               <"; output = "0 258 0 0 -\n1 278 5 21 -\n2 296 21 32 -\n3 0 21 33 -\n" }
-    ∷ []
-
-pub printed-cases : map (λ c. printed (codes (c .input))) cases ≡ map (λ c. codes (c .output)) cases
-unfolding items digitsIn tokenWith window words symbols firstOf gather isInLine blockEnd skipFrom readHex readString walk isVerticalSpace isWhitespace isDigit isNameStart isNamePart isWhite isSymbol among cellAt same member trim flatten propertyNames typeNames temporalNames isName levels level keysOf qualified decodedFrom wellFormedRows fitsRow fitsSome leadingOnes appendBits
-printed-cases = refl
-
--- A refused opening is one line.
-pub refused-case : printed (0x41 ∷ 0xFF ∷ []) ≡ codes "R2 1\n"
-unfolding digitsIn decodedFrom wellFormedRows fitsRow fitsSome leadingOnes appendBits
-refused-case = refl
+-- What is shown: what the record program prints for some bytes; the record of a text repaired after an edit; one repaired from items that no run made.
+pub data Shown : Type 0 where
+  program : List ℕ → Shown
+  afterEdit : String → ℕ → ℕ → String → Shown
+  madeUp : Edit → List Item → String → Shown
 
 abbrev reader : Reader
 reader = readToken (isName opened)
 
--- An old text, the edit's ends, the replacement, and the repaired record.
-pub record Repaired : Type 0 where
-  pub old : String
-  pub from : ℕ
-  pub to : ℕ
-  pub put : String
+unfoldable pub shown : Shown → List ℕ
+unfolding items oldRest followed repairedFrom digitsIn tokenWith window words symbols firstOf gather isInLine blockEnd skipFrom readHex readString walk isVerticalSpace isWhitespace isDigit isNameStart isNamePart isWhite isSymbol among cellAt same member trim flatten propertyNames typeNames temporalNames isName levels level keysOf qualified decodedFrom wellFormedRows fitsRow fitsSome leadingOnes appendBits
+shown (program bytes) = printed bytes
+shown (afterEdit old a b put) =
+    let e : Edit = record { from = a; to = b; size = length (codes put) } in
+    let was = runItems reader TokenType.StartExpression noFlags (codes old) in
+    lines 0 (repairItems reader e was (drop (lastKept e was 0) (edited (codes old) a b (codes put))))
+shown (madeUp e was part) = lines 0 (repairItems reader e was (codes part))
+
+pub record Case : Type 0 where
+  pub input : Shown
   pub output : String
 
-abbrev pub repairedLines : Repaired → List ℕ
-repairedLines c =
-    let e : Edit = record { from = c .from; to = c .to; size = length (codes (c .put)) } in
-    let was = runItems reader TokenType.StartExpression noFlags (codes (c .old)) in
-    lines 0 (repairItems reader e was (drop (lastKept e was 0) (edited (codes (c .old)) (c .from) (c .to) (codes (c .put)))))
+abbrev case : Shown → String → Case
+case i o = record { input = i; output = o }
 
--- A match behind the first fresh item; an old last item that would match, but is its record's last.
-abbrev pub repairs : List Repaired
-repairs =
-    record { old = "11 12 13"; from = 0; to = 2; put = "7"; output = "0 258 0 0 -\n1 287 1 12 7//+/\n2 287 4 14 12//+/\n3 287 7 17 13//+/\n4 0 7 19 -\n" }
-    ∷ record { old = "1 "; from = 1; to = 2; put = "2"; output = "0 258 0 0 -\n1 287 2 12 12//+/\n2 0 2 14 -\n" }
+-- Of the repairs, the first meets a match behind its first fresh item; in the second the old last item would match, but is its record's last;
+-- in the third, whose record no run made, the last kept item is the match, and nothing is read afresh.
+abbrev pub cases : List Case
+cases =
+    case (program (codes ".5")) "0 258 0 0 -\n1 287 2 12 0/5/+/\n2 0 2 14 -\n"
+    ∷ case (program (codes "1.25e-30")) "0 258 0 0 -\n1 287 8 12 1/25/-/30\n2 0 8 20 -\n"
+    ∷ case (program (codes "true")) "0 258 0 0 -\n1 289 4 12 true\n2 0 4 16 -\n"
+    ∷ case (program (codes "a // b")) "0 258 0 0 -\n1 310 6 12 =61,2F,2F,62\n2 0 6 18 -\n"
+    ∷ case (program (codes "\"\"")) "0 258 0 0 -\n1 288 2 12 =\n2 0 2 14 -\n"
+    ∷ case (program (codes "\"abcdefghijk\\uDC00\"")) "0 258 0 0 -\n1 R5 18 18 DC00\n"
+    ∷ case (program (codes "\"abcdefghijk\\uD83D\"")) "0 258 0 0 -\n1 R7 18 20 -\n"
+    ∷ case (program (codes "range               <")) "0 258 0 0 -\n1 278 5 21 -\n2 296 21 32 -\n3 0 21 33 -\n"
+    ∷ case (program (0x41 ∷ 0xFF ∷ [])) "R2 1\n"
+    ∷ case (afterEdit "11 12 13" 0 2 "7") "0 258 0 0 -\n1 287 1 12 7//+/\n2 287 4 14 12//+/\n3 287 7 17 13//+/\n4 0 7 19 -\n"
+    ∷ case (afterEdit "1 " 1 2 "2") "0 258 0 0 -\n1 287 2 12 12//+/\n2 0 2 14 -\n"
+    ∷ case (madeUp (record { from = 1; to = 1; size = 0 })
+    (item (token TokenType.StartExpression nothing) 0 noFlags 0 ∷ item (token TokenType.Name (chars (codes "a"))) 1 noFlags 1 ∷ item (token TokenType.YyEof nothing) 3 noFlags 15 ∷ []) "yz")
+    "0 258 0 0 -\n1 310 1 1 =61\n2 0 3 15 -\n"
     ∷ []
 
-pub repaired-cases : map repairedLines repairs ≡ map (λ c. codes (c .output)) repairs
-unfolding items oldRest followed repairedFrom digitsIn tokenWith window words symbols firstOf gather isInLine blockEnd skipFrom readHex readString walk isVerticalSpace isWhitespace isDigit isNameStart isNamePart isWhite isSymbol among cellAt same member trim flatten propertyNames typeNames temporalNames isName levels level keysOf qualified
-repaired-cases = refl
-
--- A record that no run made but that is accepted: here the last kept item is the match, and nothing is read afresh.
-pub made-up-case :
-    lines 0 (repairItems reader (record { from = 1; to = 1; size = 0 })
-    (item (token TokenType.StartExpression nothing) 0 noFlags 0 ∷ item (token TokenType.Name (chars (codes "a"))) 1 noFlags 1 ∷ item (token TokenType.YyEof nothing) 3 noFlags 15 ∷ [])
-    (codes "yz"))
-    ≡ codes "0 258 0 0 -\n1 310 1 1 =61\n2 0 3 15 -\n"
-unfolding items oldRest followed repairedFrom digitsIn tokenWith window words symbols firstOf gather isInLine blockEnd skipFrom readHex readString walk isVerticalSpace isWhitespace isDigit isNameStart isNamePart isWhite isSymbol among cellAt same member trim flatten propertyNames typeNames temporalNames isName levels level keysOf qualified
-made-up-case = refl
+pub record-cases : map (λ c. shown (c .input)) cases ≡ map (λ c. codes (c .output)) cases
+unfolding shown
+record-cases = refl

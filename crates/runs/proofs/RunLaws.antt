@@ -6,13 +6,12 @@ use Prim.Native.Nat.{ℕ, zero, suc, _+_, _≤_, _<_, suc-le-suc}
 use native.Mathlib.Nat.{not-suc-le-zero}
 use native.Mathlib.Omega.{arith}
 use lib.ListN.{length, drop, length-drop}
-use Rattle.reading.specs.Look.{run}
 use Rattle.reading.proofs.Test.{by-test}
 use Rattle.text.specs.Limits.{maxChars}
 use Rattle.lexer.specs.Flags.{Flags}
 use Rattle.lexer.proofs.TokenFacts.{Sound}
 use Rattle.runs.specs.Item.{Item, endsRun}
-use Rattle.runs.specs.Run.{Reader, itemAt, items}
+use Rattle.runs.specs.Run.{Reader, seen, itemAt, items}
 
 -- `is` are the items from position p and flags f on.
 pub data Runs (tok : Reader) (t : List ℕ) : ℕ → Flags → List Item → Type 0 where
@@ -37,7 +36,7 @@ more-is {tok} {t} {p} {f} {is = is} e = subst (λ i. endsRun i ≡ false → Run
 
 -- A reader with the facts of a reading, on every text within the limit.
 abbrev pub IsSound : Reader → Type 0
-IsSound tok = (t : List ℕ) (f : Flags) → length t ≤ maxChars → Sound (length t) (run t (tok f))
+IsSound tok = (t : List ℕ) (f : Flags) → length t ≤ maxChars → Sound (length t) (seen tok t f)
 
 module _ (tok : Reader) (sound : IsSound tok) (t : List ℕ) (limit : length t ≤ maxChars) where
   -- Each item uses a cell, so a run has at most one item more than cells are left.

@@ -16,9 +16,13 @@ Reader = Flags → Look Outcome
 abbrev pub placed : ℕ → Seen Outcome → Item
 placed p s = item (s .answer .read) (p + s .answer .used) (s .answer .flags) (p + s .reach)
 
+-- What is read of the rest of a text, and how far was looked.
+abbrev pub seen : Reader → List ℕ → Flags → Seen Outcome
+seen tok rest f = run rest (tok f)
+
 -- What a token call gives from position p on.
 abbrev pub itemAt : Reader → List ℕ → ℕ → Flags → Item
-itemAt tok t p f = placed p (run (drop p t) (tok f))
+itemAt tok t p f = placed p (seen tok (drop p t) f)
 
 -- At most n items, each from the state after the one before, to the first that ends the run.
 unfoldable pub items : Reader → ℕ → List ℕ → ℕ → Flags → List Item
