@@ -5,3 +5,4 @@ pub mod NumberFacts
 pub mod StringFacts
 pub mod NameFacts
 pub mod TokenFacts
+pub mod CallCases

@@ -1,21 +1,21 @@
 -- A name stays in the text, takes a cell, and its value is no longer than the cells taken: two words with nothing between them would have been one.
-use mathlib.Core.Path.{_≡_, refl, sym, ap, _∙_, subst}
+use mathlib.Core.Path.{_≡_, refl, sym, _∙_}
 use mathlib.Core.Bool.{Bool, true, false, cond, _&&_, false≢true, true≢false}
 use mathlib.Core.Option.{Option, none, some}
-use mathlib.Core.List.{List, [], _∷_, _++_, map}
-use Prim.Native.Nat.{ℕ, zero, suc, _+_, _-_, _≤_, _<_, min}
+use mathlib.Core.List.{List, [], _∷_, map}
+use Prim.Native.Nat.{ℕ, zero, suc, _+_, _-_, _≤_, _<_}
 use native.Mathlib.Nat.{not-suc-le-zero}
 use native.Mathlib.Omega.{arith}
 use lib.Dec.{leb}
 use borrow.Author.Tests.{leb-true}
 use lib.ListN.{length, take, length-append}
 use Rattle.reading.specs.Codes.{codes}
-use Rattle.reading.specs.Look.{cellAt, Look}
+use Rattle.reading.specs.Look.{cellAt}
 use Rattle.reading.specs.Cells.{holds, is}
 use Rattle.reading.proofs.Test.{by-test, both, every}
 use Rattle.reading.proofs.Cell.{cell-there, cell-out}
-use Rattle.reading.proofs.Passed.{Passed, passed-more}
-use Rattle.reading.proofs.Ensures.{Ensures, answers, asks, asks-cell, binds, tests, weakens, Gathered, gathers}
+use Rattle.reading.proofs.Passed.{passed-more}
+use Rattle.reading.proofs.Ensures.{Ensures, answers, asks, asks-cell, binds, tests, weakens, gathers}
 use Rattle.text.specs.Ranges.{among}
 use Rattle.text.specs.Classes.{isWhitespace, isNamePart, isWhite, isSymbol}
 use Rattle.names.specs.Same.{same, member}
@@ -24,10 +24,9 @@ use Rattle.names.specs.Name.{isSymbolText, led, joined, newName}
 use Rattle.names.specs.Fixed.{typeNames, temporalNames}
 use Rattle.names.proofs.Shorter.{trim-length, led-length, led-symbol}
 use Rattle.lexer.specs.Flags.{Flags}
-use Rattle.lexer.specs.Read.{Read, token, Outcome, hasForm}
-use Rattle.lexer.specs.Parts.{Part, part, walk}
+use Rattle.lexer.specs.Read.{token, Outcome, hasForm}
+use Rattle.lexer.specs.Parts.{Part, walk}
 use Rattle.lexer.specs.Naming.{texts, nameOf, endOf, startsWith, withPart, beforeIn, fits, longest, isFound, allParts, byPrefix, byIn, cutName, readName}
-use Rattle.lexer.specs.TokenType
 use Rattle.lexer.proofs.Fine.{Fine, over, fine}
 use Rattle.lexer.proofs.SkipFacts.{far}
 use Rattle.lexer.proofs.NumberFacts.{gathered-length}

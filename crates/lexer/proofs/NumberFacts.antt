@@ -1,15 +1,13 @@
 -- A number stays in the text, takes a cell, and its digits with the 0 put in are no more than the cells taken.
 use mathlib.Core.Path.{_≡_, refl, sym, ap, _∙_}
-use mathlib.Core.Bool.{Bool, true, false, cond, _||_, false≢true}
+use mathlib.Core.Bool.{Bool, true, false, _||_, false≢true}
 use mathlib.Core.Logic.{_⊎_, inl, inr, ⊎-elim}
-use mathlib.Core.Option.{Option, none, some}
 use mathlib.Core.List.{List, [], _∷_, _++_}
-use Prim.Native.Nat.{ℕ, zero, suc, _+_, _-_, _≤_, _<_, max}
-use native.Mathlib.Nat.{add-zero}
+use Prim.Native.Nat.{ℕ, suc, _+_, _-_, _≤_, _<_, max}
 use native.Mathlib.Omega.{arith}
 use lib.Dec.{eqb}
 use lib.ListN.{length, length-append}
-use Rattle.reading.specs.Look.{cellAt, Look}
+use Rattle.reading.specs.Look.{cellAt}
 use Rattle.reading.specs.Cells.{holds, is}
 use Rattle.reading.specs.Span.{gather}
 use Rattle.reading.proofs.Test.{either, by-order}
@@ -17,8 +15,7 @@ use Rattle.reading.proofs.Cell.{cell-there}
 use Rattle.reading.proofs.Passed.{Passed, passed-more, part-length}
 use Rattle.reading.proofs.Ensures.{Ensures, answers, asks, binds, tests, Gathered, gathers}
 use Rattle.text.specs.Classes.{isDigit}
-use Rattle.lexer.specs.Read.{Read, cellsOf}
-use Rattle.lexer.specs.Number.{orZero, numeric, readSign, readExponent, readNumber}
+use Rattle.lexer.specs.Number.{orZero, readSign, readExponent, readNumber}
 use Rattle.lexer.proofs.Fine.{Fine, fine}
 use Rattle.lexer.proofs.SkipFacts.{far}
 

@@ -1,6 +1,5 @@
 -- Skipping stays in the text and asks at most one cell behind it: by the rules of Ensures, for any two fuels above the text's length.
-use mathlib.Core.Path.{_≡_, refl}
-use mathlib.Core.Bool.{Bool, true, false, cond, _&&_}
+use mathlib.Core.Bool.{_&&_}
 use mathlib.Core.Option.{Option, none, some}
 use mathlib.Core.List.{List}
 use Prim.Native.Nat.{ℕ, zero, suc, _+_, _-_, _≤_, _<_}
@@ -8,12 +7,12 @@ use native.Mathlib.Nat.{not-suc-le-zero}
 use native.Mathlib.Omega.{arith}
 use lib.Dec.{eqb}
 use lib.ListN.{length}
-use Rattle.reading.specs.Look.{cellAt, Look, done}
+use Rattle.reading.specs.Look.{cellAt, done}
 use Rattle.reading.specs.Cells.{maybe, is}
 use Rattle.reading.proofs.Test.{both}
 use Rattle.reading.proofs.Cell.{cell-there}
 use Rattle.reading.proofs.Passed.{Passed}
-use Rattle.reading.proofs.Ensures.{Ensures, answers, asks, asks-cell, binds, tests, weakens, Gathered, gathers}
+use Rattle.reading.proofs.Ensures.{Ensures, answers, asks, asks-cell, binds, tests, gathers}
 use Rattle.text.specs.Classes.{isWhitespace}
 use Rattle.lexer.specs.Skip.{isInLine, blockEnd, blanks, comment, skipFrom, skip}
 

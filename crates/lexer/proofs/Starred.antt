@@ -1,13 +1,12 @@
 -- 01's starred cases, and the slips that it names, as one computed theorem.
 use mathlib.Core.Path.{_≡_, refl}
-use mathlib.Core.Bool.{Bool, true, false}
-use mathlib.Core.Option.{Option, none, some}
+use mathlib.Core.Bool.{true, false}
+use mathlib.Core.Option.{none}
 use mathlib.Core.List.{List, [], _∷_, map}
-use Prim.Native.Nat.{ℕ, zero, suc, _+_}
+use Prim.Native.Nat.{ℕ, zero, suc}
 use Prim.Native.String.{String}
-use lib.ListN.{drop}
 use Rattle.reading.specs.Codes.{codes}
-use Rattle.reading.specs.Look.{cellAt, Look, run}
+use Rattle.reading.specs.Look.{cellAt}
 use Rattle.reading.specs.Span.{gather}
 use Rattle.text.specs.Ranges.{among}
 use Rattle.text.specs.Classes.{isVerticalSpace, isWhitespace, isDigit, isNameStart, isNamePart, isWhite, isSymbol}
@@ -15,16 +14,16 @@ use Rattle.names.specs.Same.{same, member}
 use Rattle.names.specs.Trim.{trim}
 use Rattle.names.specs.Flatten.{flatten}
 use Rattle.names.specs.Fixed.{propertyNames, typeNames, temporalNames}
-use Rattle.scope.specs.Entries.{Entry, variable, ParsingScope}
+use Rattle.scope.specs.Entries.{variable, ParsingScope}
 use Rattle.scope.specs.Keys.{qualified, keysOf, level, levels, isName}
-use Rattle.lexer.specs.Flags.{Flags, Flag, TillIn, AfterDot, noFlags, put}
-use Rattle.lexer.specs.Read.{Read, token, refused, Value, nothing, number, chars}
+use Rattle.lexer.specs.Flags.{Flags, TillIn, AfterDot, noFlags, put}
+use Rattle.lexer.specs.Read.{Read, token, refused, nothing, number, chars}
 use Rattle.lexer.specs.Skip.{isInLine, blockEnd, skipFrom}
 use Rattle.lexer.specs.Text.{readHex, readString}
 use Rattle.lexer.specs.Parts.{walk}
 use Rattle.lexer.specs.Window.{window, words, symbols, firstOf}
 use Rattle.lexer.specs.Token.{tokenWith}
-use Rattle.lexer.specs.Lexer.{State, state, Step, step}
+use Rattle.lexer.specs.Lexer.{state, Step, step}
 use Rattle.lexer.specs.TokenType
 
 -- A text, the flags and the scope's variables at position 0 with the start token already taken; the last of so many further calls gives this, with that state.

@@ -1,13 +1,13 @@
 -- The facts of a reading, about the token reader: progress, within the text, used ≤ reach ≤ rest + 12, value no longer than used, and no trust in the fuel.
-use mathlib.Core.Path.{_≡_, refl, sym, ap, _∙_, subst}
-use mathlib.Core.Bool.{Bool, true, false, cond, _&&_, not, false≢true}
+use mathlib.Core.Path.{_≡_, refl, sym, ap, _∙_}
+use mathlib.Core.Bool.{Bool, true, false, _&&_, not, false≢true}
 use mathlib.Core.Option.{Option, none, some}
 use mathlib.Core.List.{List, [], _∷_}
-use Prim.Native.Nat.{ℕ, zero, suc, _+_, _-_, _≤_, _<_}
+use Prim.Native.Nat.{ℕ, zero, suc, _+_, _≤_, _<_}
 use native.Mathlib.Numerals.{add-one}
 use native.Mathlib.Omega.{arith}
 use lib.Dec.{ltb, eqb}
-use borrow.Author.Tests.{ltb-true, eqb-true, not-true}
+use borrow.Author.Tests.{ltb-true, not-true}
 use lib.ListN.{length, take, getD, length-take}
 use Rattle.reading.specs.Codes.{codes}
 use Rattle.reading.specs.Look.{cellAt, Look, Seen, run}
@@ -22,8 +22,7 @@ use Rattle.text.specs.Classes.{isWhitespace, isDigit, isNameStart, isNamePart}
 use Rattle.text.proofs.Scalars.{name-start-part}
 use Rattle.names.specs.Same.{same}
 use Rattle.lexer.specs.Flags.{Flags}
-use Rattle.lexer.specs.Read.{Read, token, refused, Value, nothing, truth, number, chars, Outcome, valueCells, cellsOf, ends, hasForm}
-use Rattle.lexer.specs.Number.{readNumber}
+use Rattle.lexer.specs.Read.{token, Value, nothing, truth, number, chars, Outcome, valueCells, cellsOf, ends, hasForm}
 use Rattle.lexer.specs.Window.{shown, window, Follow, anything, next, ahead, Row, words, symbols, taken, leads, isFollowed, firstOf}
 use Rattle.lexer.specs.Token.{otherCases, cases, tokenWith, fuel, readToken}
 use Rattle.lexer.proofs.Fine.{Fine, over, fine, lower}

@@ -1,6 +1,5 @@
 -- The five flags of the lexer's state.
-use mathlib.Core.Bool.{Bool, true, false, cond}
-use Prim.Native.Nat.{ℕ, _+_}
+use mathlib.Core.Bool.{Bool, false}
 
 pub record Flags : Type 0 where
   pub unaryTests : Bool

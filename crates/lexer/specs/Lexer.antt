@@ -1,11 +1,11 @@
 -- The lexer's state and the token call, with the refusals of the host.
-use mathlib.Core.Bool.{Bool, true, false, cond, _||_}
+use mathlib.Core.Bool.{true, cond, _||_}
 use mathlib.Core.Option.{Option, none, some}
 use mathlib.Core.List.{List, [], _∷_}
-use Prim.Native.Nat.{ℕ, zero, suc, _+_, _*_}
+use Prim.Native.Nat.{ℕ, _+_, _*_}
 use lib.Dec.{ltb}
 use lib.ListN.{length, drop}
-use Rattle.reading.specs.Look.{Look, Seen, run}
+use Rattle.reading.specs.Look.{run}
 use Rattle.reading.specs.Cells.{maybe, isOneOf}
 use Rattle.reading.specs.Slices.{front, zeros}
 use Rattle.text.specs.Limits.{maxChars}
@@ -14,7 +14,7 @@ use Rattle.scope.specs.Entries.{ParsingScope}
 use Rattle.scope.specs.Keys.{isName}
 use Rattle.scope.specs.Lent.{Lent, isBroken, scopeOf}
 use Rattle.lexer.specs.Flags.{Flags, Flag, noFlags, put}
-use Rattle.lexer.specs.Read.{Read, token, refused, Value, nothing, Outcome, cellsOf}
+use Rattle.lexer.specs.Read.{Read, token, refused, nothing, Outcome, cellsOf}
 use Rattle.lexer.specs.Token.{readToken}
 use Rattle.lexer.specs.TokenType
 

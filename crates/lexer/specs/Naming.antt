@@ -1,19 +1,19 @@
 -- Cutting a name: which of the parts are its own, decided in 01's order.
-use mathlib.Core.Bool.{Bool, true, false, cond, _&&_, _||_}
+use mathlib.Core.Bool.{Bool, false, cond, _&&_, _||_}
 use mathlib.Core.Option.{Option, none, some}
 use mathlib.Core.List.{List, [], _∷_, map}
 use Prim.Native.Nat.{ℕ, zero, suc}
 use lib.ListN.{length, take}
 use Rattle.reading.specs.Codes.{codes}
-use Rattle.reading.specs.Look.{Look, done, ask, _>>=_, look}
+use Rattle.reading.specs.Look.{Look, done, _>>=_, look}
 use Rattle.reading.specs.Cells.{is}
 use Rattle.text.specs.Refusals.{startsWithIn}
 use Rattle.names.specs.Same.{same, member}
 use Rattle.names.specs.Name.{newName}
 use Rattle.names.specs.Flatten.{flatten}
 use Rattle.names.specs.Fixed.{propertyNames, typeNames, temporalNames}
-use Rattle.lexer.specs.Flags.{Flags, Flag, TypeName, TillIn, AfterDot, clear}
-use Rattle.lexer.specs.Read.{Read, token, refused, Value, chars, Outcome, outcome}
+use Rattle.lexer.specs.Flags.{Flags, TypeName, TillIn, AfterDot, clear}
+use Rattle.lexer.specs.Read.{token, refused, Value, chars, Outcome, outcome}
 use Rattle.lexer.specs.Parts.{Part, walk}
 use Rattle.lexer.specs.TokenType
 

@@ -1,14 +1,12 @@
 -- Numbers. 01: a number may end in an exponent letter, or letter and sign, without digits.
 use mathlib.Core.Bool.{Bool, true, false, cond, _||_}
-use mathlib.Core.Option.{Option, none, some}
 use mathlib.Core.List.{List, [], _∷_}
-use Prim.Native.Nat.{ℕ, zero, suc, _+_}
-use lib.Dec.{eqb}
-use Rattle.reading.specs.Look.{Look, done, ask, _>>=_, look}
+use Prim.Native.Nat.{ℕ, _+_}
+use Rattle.reading.specs.Look.{Look, done, _>>=_, look}
 use Rattle.reading.specs.Cells.{holds, is}
 use Rattle.reading.specs.Span.{gather}
 use Rattle.text.specs.Classes.{isDigit}
-use Rattle.lexer.specs.Read.{Read, token, Value, number}
+use Rattle.lexer.specs.Read.{Read, token, number}
 use Rattle.lexer.specs.TokenType
 
 -- A number that begins with its point has a 0 before it.

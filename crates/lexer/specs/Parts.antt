@@ -1,9 +1,8 @@
 -- The walk over the parts of a name. 01: words and single symbols are parts, whitespace may part them.
-use mathlib.Core.Bool.{Bool, true, false, cond}
-use mathlib.Core.Option.{Option, none, some}
+use mathlib.Core.Bool.{cond}
 use mathlib.Core.List.{List, [], _∷_}
 use Prim.Native.Nat.{ℕ, zero, suc, _+_}
-use Rattle.reading.specs.Look.{Look, done, ask, _>>=_, look}
+use Rattle.reading.specs.Look.{Look, done, ask, _>>=_}
 use Rattle.reading.specs.Cells.{maybe}
 use Rattle.reading.specs.Span.{gather}
 use Rattle.text.specs.Classes.{isWhitespace, isNamePart, isSymbol}

@@ -1,7 +1,6 @@
 -- Skipping whitespace and comments. Loops take at most fuel turns (Fuel, in proofs/: any fuel above the text's length reads the same).
-use mathlib.Core.Bool.{Bool, true, false, cond, _&&_, not}
+use mathlib.Core.Bool.{Bool, cond, _&&_, not}
 use mathlib.Core.Option.{Option, none, some}
-use mathlib.Core.List.{List, [], _∷_}
 use Prim.Native.Nat.{ℕ, zero, suc, _+_}
 use lib.Dec.{eqb}
 use Rattle.reading.specs.Look.{Look, done, ask, _>>=_, look}

@@ -1,5 +1,5 @@
 -- String literals, with DMN's escapes.
-use mathlib.Core.Bool.{Bool, true, false, cond, _||_}
+use mathlib.Core.Bool.{Bool, cond, _||_}
 use mathlib.Core.Option.{Option, none, some}
 use mathlib.Core.List.{List, [], _∷_, _++_}
 use Prim.Native.Nat.{ℕ, zero, suc, _+_, _-_, _*_}
@@ -10,7 +10,7 @@ use Rattle.text.specs.Ranges.{to, within}
 use Rattle.text.specs.Classes.{isVerticalSpace}
 use Rattle.text.specs.Hex.{hexValue}
 use Rattle.text.specs.Refusals.{noHexDigit, endAtHexDigit, noScalarValue, noSecondHalf, endAtSecondHalf}
-use Rattle.lexer.specs.Read.{Read, token, refused, Value, nothing, chars}
+use Rattle.lexer.specs.Read.{Read, token, refused, nothing, chars}
 use Rattle.lexer.specs.TokenType
 
 -- One character of the string and the place behind it, or what ends the reading and where.

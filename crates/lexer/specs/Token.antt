@@ -1,17 +1,16 @@
 -- The token reader: one reading of the text from the state's position on.
-use mathlib.Core.Bool.{Bool, true, false, cond, _&&_}
-use mathlib.Core.Option.{Option, none, some}
-use mathlib.Core.List.{List, [], _∷_}
-use Prim.Native.Nat.{ℕ, zero, suc, _+_}
+use mathlib.Core.Bool.{Bool, cond, _&&_}
+use mathlib.Core.List.{List, []}
+use Prim.Native.Nat.{ℕ, _+_}
 use lib.Dec.{eqb}
 use lib.ListN.{getD}
 use Rattle.reading.specs.Codes.{codes}
-use Rattle.reading.specs.Look.{Look, done, ask, _>>=_}
+use Rattle.reading.specs.Look.{Look, done, _>>=_}
 use Rattle.text.specs.Limits.{maxChars}
 use Rattle.text.specs.Classes.{isDigit, isNameStart}
 use Rattle.names.specs.Same.{same}
-use Rattle.lexer.specs.Flags.{Flags, Flag, UnaryTests, clear}
-use Rattle.lexer.specs.Read.{Read, token, Value, nothing, Outcome, outcome}
+use Rattle.lexer.specs.Flags.{Flags, UnaryTests, clear}
+use Rattle.lexer.specs.Read.{Read, token, nothing, Outcome, outcome}
 use Rattle.lexer.specs.Skip.{skip}
 use Rattle.lexer.specs.Number.{readNumber}
 use Rattle.lexer.specs.Text.{readString}

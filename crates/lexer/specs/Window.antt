@@ -7,11 +7,11 @@ use Prim.Native.String.{String}
 use lib.Dec.{eqb}
 use lib.ListN.{length, getD}
 use Rattle.reading.specs.Codes.{codes}
-use Rattle.reading.specs.Look.{Look, done, ask, _>>=_, look}
+use Rattle.reading.specs.Look.{Look, done, _>>=_, look}
 use Rattle.reading.specs.Cells.{holds, isOneOf}
 use Rattle.text.specs.Classes.{isWhitespace}
 use Rattle.lexer.specs.Flags.{Flags, Flag, UnaryTests, Between, flagOf, clear}
-use Rattle.lexer.specs.Read.{Read, token, Value, nothing, truth, Outcome, outcome}
+use Rattle.lexer.specs.Read.{token, Value, nothing, truth, Outcome, outcome}
 use Rattle.lexer.specs.Skip.{blanks}
 use Rattle.lexer.specs.TokenType
 

@@ -1,6 +1,6 @@
 -- The two spellings of a name's parts, computed where they differ and where only one trims: U+1680 goes, U+180E stays.
 use mathlib.Core.Path.{_≡_, refl}
-use mathlib.Core.List.{List, [], _∷_, map, _++_}
+use mathlib.Core.List.{List, [], _∷_, map}
 use Prim.Native.Nat.{ℕ}
 use Rattle.reading.specs.Codes.{codes}
 use Rattle.text.specs.Ranges.{among}

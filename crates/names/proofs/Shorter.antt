@@ -1,10 +1,9 @@
 -- Trimming makes no text longer, and a leading space is the most that joining adds to a part.
 use mathlib.Core.Path.{_≡_, refl}
-use mathlib.Core.Bool.{Bool, true, false, cond, _&&_, _||_}
+use mathlib.Core.Bool.{Bool, true, false, _||_}
 use mathlib.Core.List.{List, [], _∷_, reverse}
 use Prim.Native.Nat.{ℕ, suc, _+_, _≤_, min}
 use native.Mathlib.Omega.{arith}
-use lib.Dec.{leb}
 use lib.ListN.{length, length-reverse}
 use Rattle.reading.proofs.Test.{by-test}
 use Rattle.text.specs.Classes.{isWhite}

@@ -1,17 +1,17 @@
 -- A small logic of readings: each rule says what a look, a bind or a test adds to what is known of the parts.
 use mathlib.Core.Path.{_≡_, refl, sym, ap, _∙_, subst}
-use mathlib.Core.Bool.{Bool, true, false, cond, false≢true}
+use mathlib.Core.Bool.{Bool, true, false, cond}
 use mathlib.Core.Option.{Option, none, some}
-use mathlib.Core.List.{List, [], _∷_}
-use Prim.Native.Nat.{ℕ, zero, suc, _+_, _-_, _≤_, _<_, max}
+use mathlib.Core.List.{List}
+use Prim.Native.Nat.{ℕ, _-_, _≤_, _<_}
 use native.Mathlib.Omega.{arith}
 use lib.ListN.{length}
-use Rattle.reading.specs.Look.{cellAt, Look, done, ask, _>>=_, Seen, runFrom, run, reaching}
-use Rattle.reading.specs.Cells.{maybe, holds}
-use Rattle.reading.specs.Span.{gather, past, part}
+use Rattle.reading.specs.Look.{cellAt, Look, done, ask, _>>=_, runFrom, run, reaching}
+use Rattle.reading.specs.Cells.{maybe}
+use Rattle.reading.specs.Span.{gather, part}
 use Rattle.reading.proofs.Test.{by-order}
 use Rattle.reading.proofs.Reading.{run-bind, same-answer, reach-apart}
-use Rattle.reading.proofs.Cell.{cell-in, cell-out, cell-there}
+use Rattle.reading.proofs.Cell.{cell-in, cell-out}
 use Rattle.reading.proofs.Passed.{Passed, passed, gathered}
 
 -- Two readings of the text t, which differ in their fuel, give the same answer with the same reach;

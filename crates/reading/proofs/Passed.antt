@@ -1,16 +1,14 @@
 -- One law over the class: gathering cell by cell gives the span, and looks one cell further.
-use mathlib.Core.Path.{_≡_, refl, sym, ap, _∙_}
-use mathlib.Core.Bool.{Bool, true, false, cond, false≢true}
-use mathlib.Core.Option.{Option, none, some}
+use mathlib.Core.Path.{_≡_, refl, _∙_}
+use mathlib.Core.Bool.{Bool, true, false, false≢true}
 use mathlib.Core.List.{List, [], _∷_}
 use Prim.Native.Nat.{ℕ, zero, suc, _+_, _-_, _≤_, _<_, max}
 use native.Mathlib.Nat.{not-suc-le-zero}
-use native.Mathlib.Numerals.{add-one}
 use native.Mathlib.Omega.{arith}
-use lib.ListN.{length, getD, take, drop, length-take, length-drop}
+use lib.ListN.{length, getD, drop, length-take, length-drop}
 use lib.Seq.{drop-nil, drop-cons}
-use Rattle.reading.specs.Look.{cellAt, Look, done, ask, _>>=_, Seen, runFrom, reaching}
-use Rattle.reading.specs.Cells.{maybe, holds}
+use Rattle.reading.specs.Look.{cellAt, Seen, runFrom, reaching}
+use Rattle.reading.specs.Cells.{holds}
 use Rattle.reading.specs.Span.{gather, span, past, part}
 use Rattle.reading.proofs.Test.{by-test, by-order}
 use Rattle.reading.proofs.Reading.{run-bind}

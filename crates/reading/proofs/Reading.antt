@@ -1,9 +1,9 @@
 -- The laws of readings, by induction on the tree of looks: bind, the reach so far, locality.
-use mathlib.Core.Path.{_≡_, refl, sym, ap, _∙_}
+use mathlib.Core.Path.{_≡_, refl, ap, _∙_}
 use mathlib.Core.List.{List}
-use Prim.Native.Nat.{ℕ, _+_, _≤_, _<_, max}
+use Prim.Native.Nat.{ℕ, _<_, max}
 use native.Mathlib.Omega.{arith}
-use Rattle.reading.specs.Look.{cellAt, Look, done, ask, _>>=_, Seen, runFrom, run, reaching}
+use Rattle.reading.specs.Look.{cellAt, Look, done, ask, _>>=_, runFrom, run, reaching}
 
 -- A reading after a reading: the second starts with the reach of the first.
 pub run-bind : {A B : Type 0} (t : List ℕ) (r : ℕ) (m : Look A) (k : A → Look B) → runFrom t r (m >>= k) ≡ runFrom t ((runFrom t r m) .reach) (k ((runFrom t r m) .answer))

@@ -1,6 +1,6 @@
 -- A quoted text as cells, one a character.
 use Prim.Native.Nat.{ℕ}
-use Prim.Native.Char.{Char, code}
+use Prim.Native.Char.{code}
 use Prim.Native.String.{String}
 use Prim.Native.String.{[] as []ˢ, _∷_ as _∷ˢ_}
 use mathlib.Core.List.{List, [], _∷_}

@@ -1,10 +1,10 @@
 -- Demand 3: repair of an old run's record gives the record of a run of the new text, as one equation between whole records, and between whole answers of the calls.
 use mathlib.Core.Path.{_≡_, refl, sym, ap, _∙_}
-use mathlib.Core.Bool.{Bool, true, false, cond, _||_, not}
+use mathlib.Core.Bool.{Bool, true, false, cond}
 use mathlib.Core.List.{List, [], _∷_, _++_}
-use Prim.Native.Nat.{ℕ, _+_, _-_, _≤_, _<_}
+use Prim.Native.Nat.{ℕ, _+_, _≤_}
 use native.Mathlib.Omega.{arith}
-use lib.Dec.{leb, ltb, eqb}
+use lib.Dec.{ltb}
 use borrow.Author.Tests.{leb-true, le-ltb, ltb-false, eq-eqb}
 use lib.ListN.{length, drop, length-drop}
 use Rattle.reading.proofs.Test.{by-test}
@@ -21,7 +21,7 @@ use Rattle.runs.specs.Edit.{Edit, edited, moved}
 use Rattle.runs.specs.Repair.{isKept, lastKept, repairItems}
 use Rattle.runs.specs.Record.{Record, rowsFrom, storeOf, pack, repair}
 use Rattle.runs.specs.Request.{Request, partStart, newLength, isBrokenRequest}
-use Rattle.runs.specs.Calls.{Room, Answer, refused, checked, runCall, repairCall}
+use Rattle.runs.specs.Calls.{Room, refused, checked, runCall, repairCall}
 use Rattle.runs.proofs.RunLaws.{Runs, last, more, IsSound, complete}
 use Rattle.runs.proofs.RepairLaws.{edited-length, items-repaired}
 use Rattle.runs.proofs.RecordLaws.{unpacked}

@@ -6,3 +6,4 @@ pub mod Demand3
 pub mod ThreeParts
 pub mod Edits
 pub mod RunCases
+pub mod AnswerCases

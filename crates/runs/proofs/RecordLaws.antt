@@ -2,7 +2,7 @@
 use mathlib.Core.Path.{_≡_, refl, sym, ap, _∙_}
 use mathlib.Core.Bool.{Bool, true, false, _&&_}
 use mathlib.Core.List.{List, [], _∷_, _++_, map, append-assoc}
-use Prim.Native.Nat.{ℕ, suc, _+_, _-_, _≤_, _<_}
+use Prim.Native.Nat.{ℕ, suc, _+_, _≤_, _<_}
 use native.Mathlib.Omega.{arith}
 use lib.Dec.{leb, eqb}
 use borrow.Author.Tests.{leb-true, eqb-true}
@@ -12,7 +12,7 @@ use Rattle.reading.proofs.Test.{both, below}
 use Rattle.lexer.specs.Flags.{Flags}
 use Rattle.runs.specs.Item.{Item, bit}
 use Rattle.runs.specs.Repair.{sameFlags}
-use Rattle.runs.specs.Record.{flagBits, bitFlags, Record, refusedAt, flagsAt, startAt, lengthAt, rowOf, rowsFrom, storeOf, itemOf, unpack}
+use Rattle.runs.specs.Record.{flagBits, bitFlags, refusedAt, flagsAt, startAt, lengthAt, rowOf, rowsFrom, storeOf, itemOf, unpack}
 use Rattle.runs.specs.Request.{hasKind, isRow}
 use Rattle.runs.proofs.RepairLaws.{same-flags}
 

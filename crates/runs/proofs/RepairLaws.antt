@@ -1,11 +1,11 @@
 -- Repaired items are the items of a run of the new text, for any sound reader: locality gives the kept ones, induction the fresh ones, translation the old rest.
-use mathlib.Core.Path.{_≡_, refl, sym, ap, _∙_, subst}
-use mathlib.Core.Bool.{Bool, true, false, cond, _&&_, Bool·beq}
+use mathlib.Core.Path.{_≡_, refl, sym, ap, _∙_}
+use mathlib.Core.Bool.{Bool, true, false, cond, Bool·beq}
 use mathlib.Core.Option.{Option, none, some}
 use mathlib.Core.List.{List, [], _∷_, _++_, map, append-assoc}
-use Prim.Native.Nat.{ℕ, zero, suc, _+_, _-_, _≤_, _<_}
+use Prim.Native.Nat.{ℕ, _+_, _-_, _≤_, _<_}
 use native.Mathlib.Omega.{arith}
-use lib.Dec.{leb, eqb, leb·zero}
+use lib.Dec.{leb·zero}
 use borrow.Author.Tests.{leb-true, eqb-true}
 use lib.ListN.{length, take, drop, length-append, length-drop}
 use lib.Seq.{drop-append-add, drop-drop, length-take-le}
@@ -20,7 +20,7 @@ use Rattle.lexer.specs.Read.{Read, Outcome}
 use Rattle.runs.specs.Item.{Item, item, endsRun}
 use Rattle.runs.specs.Run.{Reader, placed, seen, itemAt, items, startItem, runItems}
 use Rattle.runs.specs.Edit.{Edit, edited, moved, movedItem}
-use Rattle.runs.specs.Repair.{sameFlags, isMatch, oldRest, followed, freshItems, isKept, lastKept, repairedFrom, repairItems}
+use Rattle.runs.specs.Repair.{sameFlags, isMatch, oldRest, followed, freshItems, lastKept, repairedFrom, repairItems}
 use Rattle.runs.proofs.RunLaws.{Runs, last, more, same-run, last-is, more-is, IsSound, complete}
 
 -- What a match says.

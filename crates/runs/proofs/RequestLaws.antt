@@ -1,23 +1,23 @@
 -- The record of a run passes every test of 13: the facts of a reading give them item by item.
-use mathlib.Core.Path.{_≡_, refl, sym, ap, _∙_, subst}
+use mathlib.Core.Path.{_≡_, refl, ap, _∙_, subst}
 use mathlib.Core.Bool.{Bool, true, false, cond, _&&_, _||_, not, false≢true}
 use mathlib.Core.List.{List, [], _∷_, _++_}
-use Prim.Native.Nat.{ℕ, zero, suc, _+_, _*_, _≤_, _<_}
+use Prim.Native.Nat.{ℕ, suc, _+_, _≤_}
 use native.Mathlib.Omega.{arith}
-use lib.Dec.{leb, ltb, eqb}
+use lib.Dec.{eqb}
 use borrow.Author.Tests.{le-leb, lt-ltb, eq-eqb, eqb-true, not-true}
 use lib.ListN.{length, drop, length-append, length-drop}
 use Rattle.reading.specs.Cells.{isOneOf}
 use Rattle.reading.proofs.Test.{by-test, both, every}
 use Rattle.text.specs.Limits.{maxChars}
 use Rattle.lexer.specs.Flags.{Flags}
-use Rattle.lexer.specs.Read.{Read, token, refused, Value, nothing, truth, number, chars, cellsOf, textTypes, hasForm}
+use Rattle.lexer.specs.Read.{Read, token, refused, nothing, truth, number, chars, cellsOf, textTypes, hasForm}
 use Rattle.lexer.specs.Lexer.{startTypes, startRead}
 use Rattle.lexer.specs.TokenType
 use Rattle.runs.specs.Item.{Item, item, bit, endsRun}
 use Rattle.runs.specs.Run.{Reader, seen, itemAt, items, startItem, runItems}
-use Rattle.runs.specs.Record.{flagBits, Record, rowOf, rowsFrom, storeOf}
-use Rattle.runs.specs.Request.{hasKind, isRow, rowFits, rowsFit, recordFits}
+use Rattle.runs.specs.Record.{flagBits, rowOf, rowsFrom, storeOf}
+use Rattle.runs.specs.Request.{hasKind, rowFits, rowsFit, recordFits}
 use Rattle.runs.proofs.RunLaws.{Runs, last, more, IsSound, complete, item-count}
 
 and : {b c : Bool} → b ≡ true → c ≡ true → b && c ≡ true

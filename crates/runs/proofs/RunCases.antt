@@ -1,7 +1,7 @@
 -- Records computed as the record program prints them: 01's `.5`, every form of a value, refusals, and repairs.
 use mathlib.Core.Path.{_≡_, refl}
-use mathlib.Core.Bool.{Bool, true, false}
-use mathlib.Core.List.{List, [], _∷_, _++_, map}
+use mathlib.Core.Bool.{true}
+use mathlib.Core.List.{List, [], _∷_, map}
 use Prim.Native.Nat.{ℕ}
 use Prim.Native.String.{String}
 use lib.ListN.{length, drop}
@@ -18,7 +18,7 @@ use Rattle.names.specs.Fixed.{propertyNames, typeNames, temporalNames}
 use Rattle.scope.specs.Entries.{opened}
 use Rattle.scope.specs.Keys.{qualified, keysOf, level, levels, isName}
 use Rattle.lexer.specs.Flags.{noFlags}
-use Rattle.lexer.specs.Read.{Read, token, nothing, chars}
+use Rattle.lexer.specs.Read.{token, nothing, chars}
 use Rattle.lexer.specs.Skip.{isInLine, blockEnd, skipFrom}
 use Rattle.lexer.specs.Text.{readHex, readString}
 use Rattle.lexer.specs.Parts.{walk}

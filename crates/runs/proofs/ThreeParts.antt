@@ -1,9 +1,9 @@
 -- The second half of demand 3: repaired items are the kept ones, some fresh ones, and the old ones behind a match, moved.
-use mathlib.Core.Path.{_≡_, refl, sym, ap, _∙_}
+use mathlib.Core.Path.{_≡_, refl, sym, ap}
 use mathlib.Core.Bool.{Bool, true, false, cond}
 use mathlib.Core.Option.{Option, none, some}
 use mathlib.Core.List.{List, [], _∷_, _++_, map}
-use Prim.Native.Nat.{ℕ, zero, suc}
+use Prim.Native.Nat.{ℕ, suc}
 use lib.ListN.{length, take, drop}
 use lib.Seq.{drop-length}
 use Rattle.reading.specs.Cells.{maybe}

@@ -1,5 +1,5 @@
 -- The calls run and repair, with the refusals of the host and what they leave in the lent slices.
-use mathlib.Core.Bool.{Bool, true, false, cond, _&&_}
+use mathlib.Core.Bool.{Bool, cond, _&&_}
 use mathlib.Core.List.{List}
 use Prim.Native.Nat.{ℕ, _+_, _*_}
 use lib.Dec.{leb, ltb}

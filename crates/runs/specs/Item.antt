@@ -1,10 +1,10 @@
 -- An item of a run. 01: it holds type or refusal, value, position and flags after, and reach.
-use mathlib.Core.Bool.{Bool, true, false, cond}
-use mathlib.Core.List.{List, []}
+use mathlib.Core.Bool.{Bool, cond}
+use mathlib.Core.List.{List}
 use Prim.Native.Nat.{ℕ}
 use lib.ListN.{length}
 use Rattle.lexer.specs.Flags.{Flags}
-use Rattle.lexer.specs.Read.{Read, token, refused, Value, nothing, truth, number, chars, isRefused, numberOf, cellsOf, isLast}
+use Rattle.lexer.specs.Read.{Read, token, refused, nothing, truth, number, chars, isRefused, numberOf, cellsOf, isLast}
 
 -- The three lengths of a number: its digits before and after the point and of the exponent.
 pub record Lengths : Type 0 where

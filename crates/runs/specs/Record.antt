@@ -1,11 +1,11 @@
 -- The number form of a record: a row of eleven numbers an item, and one store of value cells.
-use mathlib.Core.Bool.{Bool, true, false, cond}
+use mathlib.Core.Bool.{Bool}
 use mathlib.Core.List.{List, [], _∷_, _++_, map}
 use Prim.Native.Nat.{ℕ, _+_, _*_, _/_, _%_}
 use lib.Dec.{eqb}
 use lib.ListN.{length, getD, take, drop}
 use Rattle.lexer.specs.Flags.{Flags}
-use Rattle.runs.specs.Item.{Item, Lengths, bit}
+use Rattle.runs.specs.Item.{Item, bit}
 use Rattle.runs.specs.Edit.{Edit}
 use Rattle.runs.specs.Run.{Reader}
 use Rattle.runs.specs.Repair.{repairItems}

@@ -1,1 +1,2 @@
 pub mod ScopeCases
+pub mod LentCases

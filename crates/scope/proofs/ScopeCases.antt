@@ -2,9 +2,8 @@
 use Prim.Native.Nat.{ℕ, zero, suc}
 use Prim.Native.String.{String}
 use mathlib.Core.Path.{_≡_, refl}
-use mathlib.Core.Bool.{Bool, true, false}
-use mathlib.Core.List.{List, [], _∷_, _++_, map}
-use lib.ListN.{length}
+use mathlib.Core.Bool.{true, false}
+use mathlib.Core.List.{[], _∷_, map}
 use Rattle.reading.specs.Codes.{codes}
 use Rattle.text.specs.Ranges.{among}
 use Rattle.text.specs.Classes.{isScalar}
@@ -12,9 +11,8 @@ use Rattle.names.specs.Same.{same, member}
 use Rattle.scope.specs.Entries.{Entry, variable, contextKind, ParsingScope, opened}
 use Rattle.scope.specs.Settled.{isRepeated, settledFrom, settled}
 use Rattle.scope.specs.Keys.{qualified, keysOf, level, levels, flattenedKeys, isName}
-use Rattle.scope.specs.Broken.{allScalar, isBrokenName, hasParent, isBrokenEntry, anyBroken, isBrokenList, anyRepeated, isBrokenSet, anyMisplaced}
+use Rattle.scope.specs.Broken.{allScalar, isBrokenName, hasParent, isBrokenEntry, anyBroken, isBrokenList}
 use Rattle.scope.specs.Calls.{Changed, changed, refused, under, top, push, pushDefault, pop, setEntryName, setContext, addParsedName}
-use Rattle.scope.specs.Lent.{Lent, held, anyTooLong, isBroken, scopeOf, anyOutside, onScope, pushList, setContextList}
 
 abbrev at : ℕ → ℕ → ℕ → String → Entry
 at c d k n = record { context = c; depth = d; kind = k; name = codes n }

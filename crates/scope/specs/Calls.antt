@@ -1,6 +1,6 @@
 -- The scope calls on the model, with 01's refusals: 10, then 11. 01: a limit is exceeded if it would be after the operation.
-use Prim.Native.Nat.{ℕ, zero, suc, _+_, _-_}
-use mathlib.Core.Bool.{Bool, true, false, cond}
+use Prim.Native.Nat.{ℕ, suc, _-_}
+use mathlib.Core.Bool.{cond}
 use mathlib.Core.List.{List, [], _∷_, _++_, map}
 use lib.Dec.{ltb, eqb}
 use lib.ListN.{length}

@@ -1,6 +1,6 @@
 -- The names that a scope holds. 01: nested contexts are flattened level by level, as `flattened_keys` does.
 use Prim.Native.Nat.{ℕ, zero, suc, _+_}
-use mathlib.Core.Bool.{Bool, true, false, cond, _||_}
+use mathlib.Core.Bool.{Bool, cond, _||_}
 use mathlib.Core.List.{List, [], _∷_, _++_}
 use lib.Dec.{ltb, eqb}
 use Rattle.reading.specs.Codes.{codes}

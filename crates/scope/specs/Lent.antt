@@ -1,8 +1,8 @@
 -- A scope and an entry list as they are lent: rows of numbers and rows of name cells.
 use Prim.Native.Nat.{ℕ, zero, suc, _+_}
-use mathlib.Core.Bool.{Bool, true, false, cond, _&&_, _||_, not}
-use mathlib.Core.List.{List, [], _∷_, _++_, map}
-use lib.Dec.{ltb, leb, eqb}
+use mathlib.Core.Bool.{Bool, false, cond, _||_}
+use mathlib.Core.List.{List, [], _∷_, map}
+use lib.Dec.{ltb}
 use lib.ListN.{length, getD, take, drop}
 use Rattle.text.specs.Refusals.{brokenScope}
 use Rattle.scope.specs.Limits.{maxContexts, maxEntries, maxParsed, maxName}

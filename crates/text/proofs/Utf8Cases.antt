@@ -2,8 +2,7 @@
 use mathlib.Core.Path.{_≡_, refl}
 use mathlib.Core.List.{List, [], _∷_, map}
 use Prim.Native.Nat.{ℕ}
-use lib.ListN.{take}
-use Rattle.text.specs.Utf8.{leadingOnes, wellFormedRows, fitsRow, fitsSome, appendBits, Decoded, chars, badAt, decodedFrom, Opened, opened, refused, openBytes}
+use Rattle.text.specs.Utf8.{leadingOnes, wellFormedRows, fitsRow, fitsSome, appendBits, decodedFrom, Opened, opened, refused, openBytes, openedOutput}
 
 pub record Case : Type 0 where
   pub bytes : List ℕ
@@ -32,3 +31,10 @@ cases =
 pub utf8-cases : map (λ c. openBytes (c .bytes) 4) cases ≡ map (λ c. c .answer) cases
 unfolding decodedFrom wellFormedRows fitsRow fitsSome leadingOnes appendBits
 utf8-cases = refl
+
+-- The text fills the front of the output; a refusal leaves it as it was.
+pub output-cases :
+    (openedOutput (openBytes (0xC2 ∷ 0xA0 ∷ []) 3) (1 ∷ 2 ∷ 3 ∷ []) ≡ 0xA0 ∷ 2 ∷ 3 ∷ [])
+    × (openedOutput (openBytes (0x41 ∷ 0xA0 ∷ []) 3) (1 ∷ 2 ∷ 3 ∷ []) ≡ 1 ∷ 2 ∷ 3 ∷ [])
+unfolding decodedFrom wellFormedRows fitsRow fitsSome leadingOnes appendBits
+output-cases = (refl, refl)

@@ -1,5 +1,5 @@
 -- The character classes of the DMN grammar (rules 26 to 30 and 61, 62 of DMN 1.3's FEEL), Unicode's White_Space and scalar values.
-use mathlib.Core.Bool.{Bool, true, false, _||_}
+use mathlib.Core.Bool.{Bool}
 use mathlib.Core.List.{List, [], _∷_, _++_}
 use Prim.Native.Nat.{ℕ}
 use Rattle.reading.specs.Codes.{codes}
