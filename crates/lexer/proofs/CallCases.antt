@@ -8,7 +8,7 @@ use Rattle.reading.specs.Look.{cellAt}
 use Rattle.reading.specs.Slices.{zeros}
 use Rattle.reading.specs.Span.{gather}
 use Rattle.text.specs.Ranges.{among}
-use Rattle.text.specs.Classes.{isVerticalSpace, isWhitespace, isDigit, isNameStart, isNamePart, isWhite, isSymbol}
+use Rattle.text.specs.Classes.{isVerticalSpace, isWhitespace, isDigit, isNameStart, isNamePart, isWhite, isSymbol, isSeparator}
 use Rattle.names.specs.Same.{same, member}
 use Rattle.names.specs.Trim.{trim}
 use Rattle.names.specs.Flatten.{flatten}
@@ -42,7 +42,7 @@ pub record Case : Type 0 where
   pub after : Called
 
 unfoldable pub found : Case → Called
-unfolding tokenWith window words symbols firstOf gather isInLine blockEnd skipFrom readHex readString walk isVerticalSpace isWhitespace isDigit isNameStart isNamePart isWhite isSymbol among cellAt same member trim flatten propertyNames typeNames temporalNames isName levels level isBroken held anyTooLong anyMisplaced anyBroken anyRepeated isBrokenSet
+unfolding tokenWith window words symbols firstOf gather isInLine blockEnd skipFrom readHex readString walk isVerticalSpace isWhitespace isDigit isNameStart isNamePart isWhite isSymbol isSeparator among cellAt same member trim flatten propertyNames typeNames temporalNames isName levels level isBroken held anyTooLong anyMisplaced anyBroken anyRepeated isBrokenSet
 found c = nextToken (c .scope) (c .from) (c .text) (c .output) (c .scratch)
 
 abbrev sevens : List ℕ

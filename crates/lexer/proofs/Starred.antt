@@ -9,7 +9,7 @@ use Rattle.reading.specs.Codes.{codes}
 use Rattle.reading.specs.Look.{cellAt}
 use Rattle.reading.specs.Span.{gather}
 use Rattle.text.specs.Ranges.{among}
-use Rattle.text.specs.Classes.{isVerticalSpace, isWhitespace, isDigit, isNameStart, isNamePart, isWhite, isSymbol}
+use Rattle.text.specs.Classes.{isVerticalSpace, isWhitespace, isDigit, isNameStart, isNamePart, isWhite, isSymbol, isSeparator}
 use Rattle.names.specs.Same.{same, member}
 use Rattle.names.specs.Trim.{trim}
 use Rattle.names.specs.Flatten.{flatten}
@@ -89,5 +89,5 @@ cases =
     ∷ []
 
 pub starred : map found cases ≡ map expected cases
-unfolding tokenWith window words symbols firstOf gather isInLine blockEnd skipFrom readHex readString walk isVerticalSpace isWhitespace isDigit isNameStart isNamePart isWhite isSymbol among cellAt same member trim flatten propertyNames typeNames temporalNames isName levels level keysOf qualified
+unfolding tokenWith window words symbols firstOf gather isInLine blockEnd skipFrom readHex readString walk isVerticalSpace isWhitespace isDigit isNameStart isNamePart isWhite isSymbol isSeparator among cellAt same member trim flatten propertyNames typeNames temporalNames isName levels level keysOf qualified
 starred = refl

@@ -92,8 +92,8 @@ module _ (t : List ℕ) where
   module _ (k k′ : ℕ) (enough : length t < k) (enough′ : length t < k′) where
     follows : (n : Follow) (w : List ℕ) (m i : ℕ) → i + m ≤ length t → Ensures t (far t) (λ _. Unit) (isFollowed k n w m i) (isFollowed k′ n w m i)
     follows anything w m i h = answers tt
-    follows (next cs) w m i h = answers tt
-    follows (ahead cs) w m i h = binds (blanks-pass t k k′ enough enough′ (i + m) h) (λ j d. let l = d .within in asks (omega arith) (answers tt))
+    follows (next p) w m i h = answers tt
+    follows (ahead p) w m i h = binds (blanks-pass t k k′ enough enough′ (i + m) h) (λ j d. let l = d .within in asks (omega arith) (answers tt))
 
     rows : (rs : List Row) (f : Flags) (w : List ℕ) (i : ℕ) {x x′ : Look Outcome} → allOf isSound rs ≡ true → i ≤ length t → Shows i w
         → Ensures t (far t) (Fit (suc i)) x x′ → Ensures t (far t) (Fit (suc i)) (firstOf k rs f w i x) (firstOf k′ rs f w i x′)

@@ -9,7 +9,7 @@ use lib.ListN.{length, getD}
 use Rattle.reading.specs.Codes.{codes}
 use Rattle.reading.specs.Look.{Look, done, _>>=_, look}
 use Rattle.reading.specs.Cells.{holds, isOneOf}
-use Rattle.text.specs.Classes.{isWhitespace}
+use Rattle.text.specs.Classes.{isWhitespace, isSeparator}
 use Rattle.lexer.specs.Flags.{Flags, Flag, UnaryTests, Between, flagOf, clear}
 use Rattle.lexer.specs.Read.{token, Value, nothing, truth, Outcome, outcome}
 use Rattle.lexer.specs.Skip.{blanks}
@@ -27,11 +27,11 @@ window (suc k) i = do
   w ← window k (suc i)
   done (shown c ∷ w)
 
--- What must stand behind a word: nothing asked, one of these in the window's next place, or one of these behind optional whitespace.
+-- What must stand behind a word: nothing asked, a character of the class in the window's next place, or one behind optional whitespace.
 pub data Follow : Type 0 where
   anything : Follow
-  next : List ℕ → Follow
-  ahead : List ℕ → Follow
+  next : (ℕ → Bool) → Follow
+  ahead : (ℕ → Bool) → Follow
 
 -- The state that a word is taken in.
 pub data When : Type 0 where
@@ -54,15 +54,15 @@ taken (ifClear g) f = not (flagOf g f)
 abbrev pub row : String → Follow → When → ℕ → Value → Row
 row s n w k v = record { word = codes s; follow = n; when = w; type = k; value = v }
 
--- A keyword before a space, before a separator (`is_separator`), before one of some characters; a symbol.
+-- A keyword before a space, a literal before a separator, a word before one of some characters, a symbol.
 abbrev pub keyword : String → ℕ → Row
-keyword s k = row s (next (codes " ")) always k nothing
+keyword s k = row s (next (eqb 0x20)) always k nothing
 
 abbrev pub literal : String → ℕ → Value → Row
-literal s k v = row s (next (codes " =!<>+-*/%.,)[]}")) always k v
+literal s k v = row s (next isSeparator) always k v
 
 abbrev pub before : String → String → ℕ → Row
-before cs s k = row s (ahead (codes cs)) always k nothing
+before cs s k = row s (ahead (isOneOf (codes cs))) always k nothing
 
 abbrev pub symbol : String → ℕ → Row
 symbol s k = row s anything always k nothing
@@ -85,10 +85,10 @@ words =
     ∷ keyword "some" TokenType.Some
     ∷ keyword "then" TokenType.Then
     ∷ literal "true" TokenType.Boolean (truth true)
-    ∷ row "and" (next (codes " ")) (ifClear Between) TokenType.And nothing
-    ∷ row "and" (next (codes " ")) (ifSet Between) TokenType.BetweenAnd nothing
+    ∷ row "and" (next (eqb 0x20)) (ifClear Between) TokenType.And nothing
+    ∷ row "and" (next (eqb 0x20)) (ifSet Between) TokenType.BetweenAnd nothing
     ∷ keyword "for" TokenType.For
-    ∷ row "not" (next (codes " (")) (ifSet UnaryTests) TokenType.Not nothing
+    ∷ row "not" (next (isOneOf (codes " ("))) (ifSet UnaryTests) TokenType.Not nothing
     ∷ keyword "if" TokenType.If
     ∷ keyword "in" TokenType.In
     ∷ keyword "of" TokenType.Of
@@ -135,11 +135,11 @@ module _ (fuel : ℕ) where
   -- Whether what must follow stands behind a word of k characters; the window begins at i.
   abbrev pub isFollowed : Follow → List ℕ → ℕ → ℕ → Look Bool
   isFollowed anything w k i = done true
-  isFollowed (next cs) w k i = done (isOneOf cs (getD w k 0x20))
-  isFollowed (ahead cs) w k i = do
+  isFollowed (next p) w k i = done (p (getD w k 0x20))
+  isFollowed (ahead p) w k i = do
     j ← blanks fuel (i + k)
     c ← look j
-    done (holds (isOneOf cs) c)
+    done (holds p c)
 
   -- The first row that fits the window, or else the reading given.
   unfoldable pub firstOf : List Row → Flags → List ℕ → ℕ → Look Outcome → Look Outcome

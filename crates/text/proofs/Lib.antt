@@ -1,3 +1,4 @@
+pub mod RangeLaws
 pub mod Scalars
 pub mod Lengths
 pub mod Utf8Cases

@@ -64,3 +64,7 @@ isScalar c = among scalars c
 -- The additional name symbols.
 unfoldable pub isSymbol : ℕ → Bool
 isSymbol c = isOneOf (codes "./-'+*") c
+
+-- What may stand right behind `true`, `false` and `null` (the Rust's `is_separator`).
+unfoldable pub isSeparator : ℕ → Bool
+isSeparator c = isOneOf (codes " =!<>+-*/%.,)[]}") c

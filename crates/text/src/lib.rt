@@ -1,1 +1,5 @@
-// Characters and the opening of UTF-8: the definitions are in specs/.
+// Characters and the opening of UTF-8.
+
+pub mod classes; // classes.rt: the character classes of the grammar
+pub mod hex; // hex.rt: hexadecimal digits
+pub mod utf8; // utf8.rt: bytes to characters
