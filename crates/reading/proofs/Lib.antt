@@ -3,3 +3,4 @@ pub mod Reading
 pub mod Cell
 pub mod Passed
 pub mod Ensures
+pub mod Front

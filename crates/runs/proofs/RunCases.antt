@@ -10,7 +10,7 @@ use Rattle.reading.specs.Look.{cellAt}
 use Rattle.reading.specs.Span.{gather}
 use Rattle.text.specs.Ranges.{among}
 use Rattle.text.specs.Classes.{isVerticalSpace, isWhitespace, isDigit, isNameStart, isNamePart, isWhite, isSymbol, isSeparator}
-use Rattle.text.specs.Utf8.{leadingOnes, wellFormedRows, fitsRow, fitsSome, appendBits, decodedFrom}
+use Rattle.text.specs.Utf8.{leadingOnes, wellFormedRows, fitsRow, fitsSome, appendBits, decodedFrom, sequence}
 use Rattle.names.specs.Same.{same, member}
 use Rattle.names.specs.Trim.{trim}
 use Rattle.names.specs.Flatten.{flatten}
@@ -41,7 +41,7 @@ abbrev reader : Reader
 reader = readToken (isName opened)
 
 unfoldable pub shown : Shown → List ℕ
-unfolding items oldRest followed repairedFrom digitsIn tokenWith window words symbols firstOf gather isInLine blockEnd skipFrom readHex readString walk isVerticalSpace isWhitespace isDigit isNameStart isNamePart isWhite isSymbol isSeparator among cellAt same member trim flatten propertyNames typeNames temporalNames isName levels level keysOf qualified decodedFrom wellFormedRows fitsRow fitsSome leadingOnes appendBits
+unfolding items oldRest followed repairedFrom digitsIn tokenWith window words symbols firstOf gather isInLine blockEnd skipFrom readHex readString walk isVerticalSpace isWhitespace isDigit isNameStart isNamePart isWhite isSymbol isSeparator among cellAt same member trim flatten propertyNames typeNames temporalNames isName levels level keysOf qualified decodedFrom sequence wellFormedRows fitsRow fitsSome leadingOnes appendBits
 shown (program bytes) = printed bytes
 shown (afterEdit old a b put) =
     let e : Edit = record { from = a; to = b; size = length (codes put) } in

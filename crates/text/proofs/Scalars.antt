@@ -1,13 +1,8 @@
 -- Cells that are no scalar value belong to no class: each range of each table lies in one of the scalar values' ranges, by computation.
 use mathlib.Core.Path.{_≡_, refl}
-use mathlib.Core.Bool.{Bool, true, false, _&&_, _||_, false≢true}
-use mathlib.Core.List.{List, [], _∷_, _++_}
+use mathlib.Core.Bool.{true}
+use mathlib.Core.List.{List, _++_}
 use Prim.Native.Nat.{ℕ}
-use native.Mathlib.Omega.{arith}
-use lib.Dec.{leb}
-use borrow.Author.Tests.{leb-true, le-leb}
-use lib.ListN.{getD}
-use Rattle.reading.proofs.Test.{both, either}
 use Rattle.text.specs.Ranges.{among}
 use Rattle.text.proofs.RangeLaws.{covered, allCovered, among-covered}
 use Rattle.text.specs.Classes.{verticalSpaces, whitespaces, digits, nameStarts, nameParts, whiteSpaces, scalars, isNameStart, isNamePart, isScalar}

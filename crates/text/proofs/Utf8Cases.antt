@@ -2,7 +2,7 @@
 use mathlib.Core.Path.{_≡_, refl}
 use mathlib.Core.List.{List, [], _∷_, map}
 use Prim.Native.Nat.{ℕ}
-use Rattle.text.specs.Utf8.{leadingOnes, wellFormedRows, fitsRow, fitsSome, appendBits, decodedFrom, Opened, opened, refused, openBytes, openedOutput}
+use Rattle.text.specs.Utf8.{leadingOnes, wellFormedRows, fitsRow, fitsSome, appendBits, decodedFrom, sequence, Opened, opened, refused, openBytes, openedOutput}
 
 pub record Case : Type 0 where
   pub bytes : List ℕ
@@ -29,12 +29,12 @@ cases =
     ∷ []
 
 pub utf8-cases : map (λ c. openBytes (c .bytes) 4) cases ≡ map (λ c. c .answer) cases
-unfolding decodedFrom wellFormedRows fitsRow fitsSome leadingOnes appendBits
+unfolding decodedFrom sequence wellFormedRows fitsRow fitsSome leadingOnes appendBits
 utf8-cases = refl
 
 -- The text fills the front of the output; a refusal leaves it as it was.
 pub output-cases :
     (openedOutput (openBytes (0xC2 ∷ 0xA0 ∷ []) 3) (1 ∷ 2 ∷ 3 ∷ []) ≡ 0xA0 ∷ 2 ∷ 3 ∷ [])
     × (openedOutput (openBytes (0x41 ∷ 0xA0 ∷ []) 3) (1 ∷ 2 ∷ 3 ∷ []) ≡ 1 ∷ 2 ∷ 3 ∷ [])
-unfolding decodedFrom wellFormedRows fitsRow fitsSome leadingOnes appendBits
+unfolding decodedFrom sequence wellFormedRows fitsRow fitsSome leadingOnes appendBits
 output-cases = (refl, refl)

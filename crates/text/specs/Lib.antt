@@ -4,3 +4,4 @@ pub mod Ranges
 pub mod Classes
 pub mod Hex
 pub mod Utf8
+pub mod Opening

@@ -1,9 +1,11 @@
 -- Opening bytes: well-formed UTF-8 as the Unicode Standard's table 3-7 has it, decoded to one cell a character.
 use mathlib.Core.Bool.{Bool, true, false, cond, _&&_, _||_}
+use mathlib.Core.Option.{Option, none, some}
 use mathlib.Core.List.{List, [], _∷_}
 use Prim.Native.Nat.{ℕ, zero, suc, _+_, _-_, _*_, _%_, _^_}
 use lib.Dec.{leb, ltb, eqb}
 use lib.ListN.{length, take}
+use Rattle.reading.specs.Cells.{maybe}
 use Rattle.reading.specs.Slices.{front}
 use Rattle.text.specs.Limits.{maxChars, maxBytes}
 use Rattle.text.specs.Refusals.{tooLong, notUtf8, shortSlice}
@@ -60,6 +62,11 @@ appendBits v (b ∷ bs) = appendBits (v * 0x40 + b % 0x40) bs
 abbrev pub decode : ℕ → List ℕ → ℕ
 decode b bs = appendBits (b % 2 ^ (7 - leadingOnes b)) bs
 
+-- The character that the bytes begin with, and the length of its sequence.
+unfoldable pub sequence : List ℕ → Option (ℕ × ℕ)
+sequence [] = none
+sequence (b ∷ bs) = cond (isWellFormed (take (sequenceLength b) (b ∷ bs))) (some (decode b (take (sequenceLength b - 1) bs), sequenceLength b)) none
+
 pub data Decoded : Type 0 where
   chars : List ℕ → Decoded
   badAt : ℕ → Decoded
@@ -68,15 +75,16 @@ abbrev pub withChar : ℕ → Decoded → Decoded
 withChar c (chars cs) = chars (c ∷ cs)
 withChar c (badAt p) = badAt p
 
+abbrev pub withChars : List ℕ → Decoded → Decoded
+withChars [] d = d
+withChars (c ∷ cs) d = withChar c (withChars cs d)
+
 -- The characters of the bytes from place p on, of which the first so many belong to a sequence already decoded.
 -- 01: the place of a refusal 2 is the byte where the first bad sequence begins.
 unfoldable pub decodedFrom : ℕ → ℕ → List ℕ → Decoded
 decodedFrom skip p [] = chars []
 decodedFrom (suc skip) p (b ∷ bs) = decodedFrom skip (suc p) bs
-decodedFrom zero p (b ∷ bs) =
-    cond (isWellFormed (take (sequenceLength b) (b ∷ bs)))
-    (withChar (decode b (take (sequenceLength b - 1) bs)) (decodedFrom (sequenceLength b - 1) (suc p) bs))
-    (badAt p)
+decodedFrom zero p (b ∷ bs) = maybe (sequence (b ∷ bs)) (badAt p) (λ s. withChar (s .0) (decodedFrom (s .1 - 1) (suc p) bs))
 
 abbrev pub decoded : List ℕ → Decoded
 decoded bs = decodedFrom 0 0 bs
