@@ -11,8 +11,8 @@ use Rattle.text.specs.Ranges.{among}
 use Rattle.text.specs.Classes.{isVerticalSpace, isWhitespace, isDigit, isNameStart, isNamePart, isWhite, isSymbol, isSeparator}
 use Rattle.names.specs.Same.{same, member}
 use Rattle.names.specs.Trim.{trim}
-use Rattle.names.specs.Flatten.{flatten}
-use Rattle.names.specs.Fixed.{propertyNames, typeNames, temporalNames}
+use Rattle.names.specs.Flatten.{flat}
+use Rattle.names.specs.Fixed.{rangeProperties, dateProperties, timeProperties, propertyNames, plainTypes, temporalTypes, typeNames, temporalNames}
 use Rattle.scope.specs.Keys.{level, levels, isName}
 use Rattle.scope.specs.Broken.{anyBroken, anyRepeated, isBrokenSet, anyMisplaced}
 use Rattle.scope.specs.Lent.{Lent, held, anyTooLong, isBroken}
@@ -42,7 +42,7 @@ pub record Case : Type 0 where
   pub after : Called
 
 unfoldable pub found : Case → Called
-unfolding tokenWith window words symbols firstOf gather isInLine blockEnd skipFrom readHex readString walk isVerticalSpace isWhitespace isDigit isNameStart isNamePart isWhite isSymbol isSeparator among cellAt same member trim flatten propertyNames typeNames temporalNames isName levels level isBroken held anyTooLong anyMisplaced anyBroken anyRepeated isBrokenSet
+unfolding tokenWith window words symbols firstOf gather isInLine blockEnd skipFrom readHex readString walk isVerticalSpace isWhitespace isDigit isNameStart isNamePart isWhite isSymbol isSeparator among cellAt same member trim flat rangeProperties dateProperties timeProperties propertyNames plainTypes temporalTypes typeNames temporalNames isName levels level isBroken held anyTooLong anyMisplaced anyBroken anyRepeated isBrokenSet
 found c = nextToken (c .scope) (c .from) (c .text) (c .output) (c .scratch)
 
 abbrev sevens : List ℕ

@@ -12,8 +12,8 @@ use Rattle.text.specs.Ranges.{among}
 use Rattle.text.specs.Classes.{isVerticalSpace, isWhitespace, isDigit, isNameStart, isNamePart, isWhite, isSymbol, isSeparator}
 use Rattle.names.specs.Same.{same, member}
 use Rattle.names.specs.Trim.{trim}
-use Rattle.names.specs.Flatten.{flatten}
-use Rattle.names.specs.Fixed.{propertyNames, typeNames, temporalNames}
+use Rattle.names.specs.Flatten.{flat}
+use Rattle.names.specs.Fixed.{rangeProperties, dateProperties, timeProperties, propertyNames, plainTypes, temporalTypes, typeNames, temporalNames}
 use Rattle.scope.specs.Entries.{variable, ParsingScope}
 use Rattle.scope.specs.Keys.{qualified, keysOf, level, levels, isName}
 use Rattle.lexer.specs.Flags.{Flags, TillIn, AfterDot, noFlags, put}
@@ -89,5 +89,5 @@ cases =
     ∷ []
 
 pub starred : map found cases ≡ map expected cases
-unfolding tokenWith window words symbols firstOf gather isInLine blockEnd skipFrom readHex readString walk isVerticalSpace isWhitespace isDigit isNameStart isNamePart isWhite isSymbol isSeparator among cellAt same member trim flatten propertyNames typeNames temporalNames isName levels level keysOf qualified
+unfolding tokenWith window words symbols firstOf gather isInLine blockEnd skipFrom readHex readString walk isVerticalSpace isWhitespace isDigit isNameStart isNamePart isWhite isSymbol isSeparator among cellAt same member trim flat rangeProperties dateProperties timeProperties propertyNames plainTypes temporalTypes typeNames temporalNames isName levels level keysOf qualified
 starred = refl

@@ -7,7 +7,7 @@ use Rattle.text.specs.Ranges.{among}
 use Rattle.text.specs.Classes.{isWhite, isSymbol}
 use Rattle.names.specs.Trim.{trim}
 use Rattle.names.specs.Name.{newName}
-use Rattle.names.specs.Flatten.{flatten}
+use Rattle.names.specs.Flatten.{flat, flatten}
 
 pub record Case : Type 0 where
   pub parts : List (List ℕ)
@@ -28,5 +28,5 @@ cases =
     ∷ []
 
 pub name-cases : (map (λ c. newName (c .parts)) cases ≡ map (λ c. c .value) cases) × (map (λ c. flatten (c .parts)) cases ≡ map (λ c. c .flattened) cases)
-unfolding flatten trim isWhite isSymbol among
+unfolding flat trim isWhite isSymbol among
 name-cases = (refl, refl)

@@ -23,6 +23,10 @@ abbrev pub tightenAll : List ℕ → List ℕ → List ℕ
 tightenAll [] xs = xs
 tightenAll (s ∷ ss) xs = tightenAll ss (tighten s xs)
 
+-- A joined text, trimmed and passed over six times.
+unfoldable pub flat : List ℕ → List ℕ
+flat xs = tightenAll (codes "./-'+*") (trim xs)
+
 -- 01: parts trimmed, joined by a space, the whole trimmed, then the six passes.
-unfoldable pub flatten : List (List ℕ) → List ℕ
-flatten ps = tightenAll (codes "./-'+*") (trim (joinBySpace (map trim ps)))
+abbrev pub flatten : List (List ℕ) → List ℕ
+flatten ps = flat (joinBySpace (map trim ps))

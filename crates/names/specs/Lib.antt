@@ -3,3 +3,4 @@ pub mod Trim
 pub mod Name
 pub mod Flatten
 pub mod Fixed
+pub mod Spelling

@@ -1,1 +1,6 @@
-// Trimming, joining and flattening of names, and the fixed names: the definitions are in specs/.
+// Names: trimming, joining, flattening and the fixed names.
+
+pub mod trim; // trim.rt: white space at the ends
+pub mod flatten; // flatten.rt: the spelling that is looked up
+pub mod name; // name.rt: parts put behind one another
+pub mod fixed; // fixed.rt: properties, types and temporal functions

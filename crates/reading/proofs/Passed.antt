@@ -1,12 +1,12 @@
 -- One law over the class: gathering cell by cell gives the span, and looks one cell further.
 use mathlib.Core.Path.{_≡_, refl, _∙_}
 use mathlib.Core.Bool.{Bool, true, false, false≢true}
-use mathlib.Core.List.{List, [], _∷_}
+use mathlib.Core.List.{List, [], _∷_, _++_}
 use Prim.Native.Nat.{ℕ, zero, suc, _+_, _-_, _≤_, _<_, max}
 use native.Mathlib.Nat.{not-suc-le-zero}
 use native.Mathlib.Omega.{arith}
-use lib.ListN.{length, getD, drop, length-take, length-drop}
-use lib.Seq.{drop-nil, drop-cons}
+use lib.ListN.{length, getD, take, drop, length-take, length-drop}
+use lib.Seq.{drop-nil, take-nil, drop-cons, drop-drop, getD-take, getD-drop, take-suc}
 use Rattle.reading.specs.Look.{cellAt, Seen, runFrom, reaching}
 use Rattle.reading.specs.Cells.{holds}
 use Rattle.reading.specs.Span.{gather, span, past, part}
@@ -78,6 +78,26 @@ part-more t i j h l = let e : j - i ≡ suc (j - suc i) = omega arith in rw (e, 
 
 pub part-length : (t : List ℕ) (i j : ℕ) → j ≤ length t → length (part t i j) ≡ j - i
 part-length t i j h = simp (length-take, length-drop) (omega arith)
+
+-- A part without its first cells, its cells, and its last cell apart.
+drop-take : (n m : ℕ) (l : List ℕ) → drop n (take m l) ≡ take (m - n) (drop n l)
+drop-take zero m l = let z : m - 0 ≡ m = omega arith in rw z
+drop-take (suc n) zero l = let z : 0 - suc n ≡ 0 = omega arith in rw z
+drop-take (suc n) (suc m) [] = rw take-nil
+drop-take (suc n) (suc m) (x ∷ l) = let z : suc m - suc n ≡ m - n = omega arith in rw z (drop-take n m l)
+
+module _ (t : List ℕ) (i e : ℕ) where
+  pub part-drop : (m : ℕ) → drop m (part t i e) ≡ part t (i + m) e
+  part-drop m = let z : e - i - m ≡ e - (i + m) = omega arith in drop-take m (e - i) (drop i t) ∙ rw (drop-drop m i t, z)
+
+  pub part-cell : (m : ℕ) → i + m < e → getD (part t i e) m 0 ≡ getD t (i + m) 0
+  part-cell m h = getD-take (e - i) (drop i t) m 0 (omega arith) ∙ getD-drop i t m 0
+
+  pub part-snoc : i < e → e ≤ length t → part t i e ≡ part t i (e - 1) ++ getD t (e - 1) 0 ∷ []
+  part-snoc l h =
+      let z : e - i ≡ suc (e - 1 - i) = omega arith in
+      let y : i + (e - 1 - i) ≡ e - 1 = omega arith in
+      rw z (take-suc (drop i t) (e - 1 - i) 0 (rw length-drop (omega arith)) ∙ rw (getD-drop i t (e - 1 - i) 0, y))
 
 abbrev gathering : List ℕ → ℕ → ℕ → ℕ → Seen (List ℕ × ℕ)
 gathering t i j q = record { answer = (part t i j, j); reach = q }

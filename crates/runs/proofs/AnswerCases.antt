@@ -10,8 +10,8 @@ use Rattle.text.specs.Ranges.{among}
 use Rattle.text.specs.Classes.{isVerticalSpace, isWhitespace, isDigit, isNameStart, isNamePart, isWhite, isSymbol, isSeparator}
 use Rattle.names.specs.Same.{same, member}
 use Rattle.names.specs.Trim.{trim}
-use Rattle.names.specs.Flatten.{flatten}
-use Rattle.names.specs.Fixed.{propertyNames, typeNames, temporalNames}
+use Rattle.names.specs.Flatten.{flat}
+use Rattle.names.specs.Fixed.{rangeProperties, dateProperties, timeProperties, propertyNames, plainTypes, temporalTypes, typeNames, temporalNames}
 use Rattle.scope.specs.Keys.{level, levels, isName}
 use Rattle.scope.specs.Broken.{anyBroken, anyRepeated, isBrokenSet, anyMisplaced}
 use Rattle.scope.specs.Lent.{Lent, held, anyTooLong, isBroken}
@@ -45,7 +45,7 @@ pub data Call : Type 0 where
   repair : ℕ → ℕ → Request → Call
 
 unfoldable pub answered : Call → Answer
-unfolding items oldRest followed repairedFrom rowsFit tokenWith window words symbols firstOf gather isInLine blockEnd skipFrom readHex readString walk isVerticalSpace isWhitespace isDigit isNameStart isNamePart isWhite isSymbol isSeparator among cellAt same member trim flatten propertyNames typeNames temporalNames isName levels level isBroken held anyTooLong anyMisplaced anyBroken anyRepeated isBrokenSet
+unfolding items oldRest followed repairedFrom rowsFit tokenWith window words symbols firstOf gather isInLine blockEnd skipFrom readHex readString walk isVerticalSpace isWhitespace isDigit isNameStart isNamePart isWhite isSymbol isSeparator among cellAt same member trim flat rangeProperties dateProperties timeProperties propertyNames plainTypes temporalTypes typeNames temporalNames isName levels level isBroken held anyTooLong anyMisplaced anyBroken anyRepeated isBrokenSet
 answered (run n room t) = runCall (scopeOf n) (roomFor room) 258 noFlags t
 answered (repair n room q) = repairCall (scopeOf n) (roomFor room) q
 

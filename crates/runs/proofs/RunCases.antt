@@ -13,8 +13,8 @@ use Rattle.text.specs.Classes.{isVerticalSpace, isWhitespace, isDigit, isNameSt
 use Rattle.text.specs.Utf8.{leadingOnes, wellFormedRows, fitsRow, fitsSome, appendBits, decodedFrom, sequence}
 use Rattle.names.specs.Same.{same, member}
 use Rattle.names.specs.Trim.{trim}
-use Rattle.names.specs.Flatten.{flatten}
-use Rattle.names.specs.Fixed.{propertyNames, typeNames, temporalNames}
+use Rattle.names.specs.Flatten.{flat}
+use Rattle.names.specs.Fixed.{rangeProperties, dateProperties, timeProperties, propertyNames, plainTypes, temporalTypes, typeNames, temporalNames}
 use Rattle.scope.specs.Entries.{opened}
 use Rattle.scope.specs.Keys.{qualified, keysOf, level, levels, isName}
 use Rattle.lexer.specs.Flags.{noFlags}
@@ -41,7 +41,7 @@ abbrev reader : Reader
 reader = readToken (isName opened)
 
 unfoldable pub shown : Shown → List ℕ
-unfolding items oldRest followed repairedFrom digitsIn tokenWith window words symbols firstOf gather isInLine blockEnd skipFrom readHex readString walk isVerticalSpace isWhitespace isDigit isNameStart isNamePart isWhite isSymbol isSeparator among cellAt same member trim flatten propertyNames typeNames temporalNames isName levels level keysOf qualified decodedFrom sequence wellFormedRows fitsRow fitsSome leadingOnes appendBits
+unfolding items oldRest followed repairedFrom digitsIn tokenWith window words symbols firstOf gather isInLine blockEnd skipFrom readHex readString walk isVerticalSpace isWhitespace isDigit isNameStart isNamePart isWhite isSymbol isSeparator among cellAt same member trim flat rangeProperties dateProperties timeProperties propertyNames plainTypes temporalTypes typeNames temporalNames isName levels level keysOf qualified decodedFrom sequence wellFormedRows fitsRow fitsSome leadingOnes appendBits
 shown (program bytes) = printed bytes
 shown (afterEdit old a b put) =
     let e : Edit = record { from = a; to = b; size = length (codes put) } in

@@ -1,4 +1,5 @@
 // The character classes, each a table of ranges that rise.
+// Ruled out, among others: a range one short at its end (U+200B no whitespace); the last character of a range left out.
 ghost use mathlib.Core.Path.{_≡_};
 ghost use mathlib.Core.Bool.{true};
 ghost use Rattle.text.specs.Ranges.{Found, rises};

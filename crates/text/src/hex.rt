@@ -4,6 +4,7 @@ ghost use Rattle.reading.specs.Cells.{maybe};
 ghost use Rattle.text.specs.Hex.{hexValue};
 
 // The value of a hexadecimal digit, or 16 for any other character.
+// Ruled out, among others: A taken for eleven; G taken for a digit.
 pub fn hex_to_decimal(c: u32) -> u32
     ensures { λ r. ⌜ r ≡ maybe (hexValue c) 16 (λ d. d) ⌝ }
 {

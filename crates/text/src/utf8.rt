@@ -176,6 +176,7 @@ fn write_chars(bytes: &[u8], out: &mut [u32])
 }
 
 // Opens bytes as a text: 1 for too many bytes, 2 with the place of the first bad sequence, 1 for too many characters, 9 for a short output.
+// Ruled out, among others: an overlong form taken for a character; each character written at its byte's place.
 pub fn open_bytes(bytes: &[u8], out: &mut [u32]) -> Opening
     ensures { λ r. ⌜ (r ≡ openingOf (spec.openBytes (now (bytes .entry)) (length (now (out .entry)))))
         × (now (out .exit) ≡ spec.openedOutput (spec.openBytes (now (bytes .entry)) (length (now (out .entry)))) (now (out .entry))) ⌝ }
