@@ -6,3 +6,4 @@ pub mod StringFacts
 pub mod NameFacts
 pub mod TokenFacts
 pub mod CallCases
+pub mod SkipLaws

@@ -9,3 +9,4 @@ pub mod Naming
 pub mod Window
 pub mod Token
 pub mod Lexer
+pub mod Answers

@@ -1,1 +1,4 @@
-// The token reader and the token call: the definitions are in specs/.
+// The lexer: from the cells of a text to tokens.
+
+pub mod look; // look.rt: one cell and a class
+pub mod skip; // skip.rt: whitespace and comments

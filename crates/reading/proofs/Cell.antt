@@ -1,6 +1,6 @@
 -- The cell at an index: there, past the end, behind some dropped, before some put behind.
 use mathlib.Core.Path.{_≡_, refl}
-use mathlib.Core.Bool.{Bool, true, false≢true}
+use mathlib.Core.Bool.{Bool, true, false, false≢true}
 use mathlib.Core.Option.{none, some}
 use mathlib.Core.List.{List, [], _∷_, _++_}
 use Prim.Native.Nat.{ℕ, zero, suc, _+_, _≤_, _<_}
@@ -28,6 +28,13 @@ unfolding cellAt
 cell-there p [] i h = absurd (false≢true h)
 cell-there p (x ∷ t) zero h = omega arith
 cell-there p (x ∷ t) (suc i) h = omega (arith, cell-there p t i h)
+
+-- A look, as code makes it.
+pub holds-out : (p : ℕ → Bool) (t : List ℕ) (i : ℕ) → length t ≤ i → false ≡ holds p (cellAt t i)
+holds-out p t i h = rw (cell-out t i h)
+
+pub holds-in : (p : ℕ → Bool) (t : List ℕ) (i : ℕ) → i < length t → p (getD t i 0) ≡ holds p (cellAt t i)
+holds-in p t i h = rw (cell-in t i h)
 
 pub cell-drop : (p : ℕ) (t : List ℕ) (i : ℕ) → cellAt (drop p t) i ≡ cellAt t (p + i)
 unfolding cellAt

@@ -4,3 +4,4 @@ pub mod Cell
 pub mod Passed
 pub mod Ensures
 pub mod Front
+pub mod Going

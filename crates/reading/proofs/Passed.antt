@@ -1,5 +1,6 @@
 -- One law over the class: gathering cell by cell gives the span, and looks one cell further.
-use mathlib.Core.Path.{_≡_, refl, _∙_}
+use mathlib.Core.Path.{_≡_, refl, sym, ap, _∙_}
+use native.Mathlib.Numerals.{add-one}
 use mathlib.Core.Bool.{Bool, true, false, false≢true}
 use mathlib.Core.List.{List, [], _∷_, _++_}
 use Prim.Native.Nat.{ℕ, zero, suc, _+_, _-_, _≤_, _<_, max}
@@ -12,7 +13,7 @@ use Rattle.reading.specs.Cells.{holds}
 use Rattle.reading.specs.Span.{gather, span, past, part}
 use Rattle.reading.proofs.Test.{by-test, by-order}
 use Rattle.reading.proofs.Reading.{run-bind}
-use Rattle.reading.proofs.Cell.{cell-in, cell-out, cell-drop}
+use Rattle.reading.proofs.Cell.{cell-in, cell-out, cell-there, cell-drop}
 
 span-in : (p : ℕ → Bool) (t : List ℕ) (i : ℕ) → holds p (cellAt t i) ≡ true → span p (drop i t) ≡ suc (span p (drop (suc i) t))
 unfolding cellAt
@@ -65,6 +66,26 @@ passed p t i h = record {
   end = refl;
   out = rw (← cell-drop i t (span p (drop i t))) (span-stops p (drop i t));
 }
+
+-- A loop of code that passes cells of the class p: it began at i and stands at j.
+pub record Along (p : ℕ → Bool) (t : List ℕ) (i j : ℕ) : Type 0 where
+  pub from : i ≤ j
+  pub within : j ≤ length t
+  pub same : past p t i ≡ past p t j
+
+pub along-none : {p : ℕ → Bool} {t : List ℕ} {i : ℕ} → i ≤ length t → Along p t i i
+along-none h = record { from = omega arith; within = h; same = refl }
+
+module _ {p : ℕ → Bool} {t : List ℕ} {i j : ℕ} (a : Along p t i j) {b : Bool} (e : b ≡ holds p (cellAt t j)) where
+  pub along-more : b ≡ true → Along p t i (j + 1)
+  along-more g =
+      let h : holds p (cellAt t j) ≡ true = sym e ∙ g in
+      let l = cell-there p t j h in
+      let n = a .from in
+      record { from = omega arith; within = omega arith; same = a .same ∙ past-in p t j h ∙ ap (past p t) (sym (add-one j)) }
+
+  pub along-end : b ≡ false → Passed p t i j
+  along-end g = record { from = a .from; within = a .within; end = a .same ∙ past-out p t j (sym e ∙ g); out = sym e ∙ g }
 
 -- A run that begins with a cell of the class is not empty.
 pub passed-more : {p : ℕ → Bool} {t : List ℕ} {i j : ℕ} → Passed p t i j → holds p (cellAt t i) ≡ true → i < j

@@ -2,4 +2,5 @@ pub mod Codes
 pub mod Look
 pub mod Cells
 pub mod Span
+pub mod Goes
 pub mod Slices
