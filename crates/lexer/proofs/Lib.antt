@@ -7,3 +7,4 @@ pub mod NameFacts
 pub mod TokenFacts
 pub mod CallCases
 pub mod SkipLaws
+pub mod NumberLaws

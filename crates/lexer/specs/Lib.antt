@@ -10,3 +10,4 @@ pub mod Window
 pub mod Token
 pub mod Lexer
 pub mod Answers
+pub mod Numerals

@@ -2,6 +2,7 @@
 use mathlib.Core.Path.{_≡_, refl, _∙_}
 use mathlib.Core.List.{List, [], _∷_, _++_, append-assoc}
 use Prim.Native.Nat.{ℕ, suc, _+_, _-_, _<_, _≤_}
+use native.Mathlib.Nat.{not-suc-le-zero}
 use native.Mathlib.Numerals.{add-one}
 use native.Mathlib.Omega.{arith}
 use lib.ListN.{length, take, drop, set, getD, length-append, length-drop, length-set}
@@ -45,3 +46,11 @@ wrote-more {o} {v} w t f a h lk q = record {
   size = rw (length-append, part-length t f a h, ← w .size) lk;
   left = rw (q, w .left, w .size) (front-paste v o (drop f t) (a - f) (simp length-drop (omega arith)));
 }
+
+-- The first cells of an output.
+pub front-one : (o : List ℕ) (x : ℕ) → 0 < length o → set o 0 x ≡ front (x ∷ []) o
+front-one [] x h = absurd (not-suc-le-zero h)
+front-one (y ∷ o) x h = refl
+
+pub front-first : (o s : List ℕ) (n : ℕ) → n ≤ length s → paste o 0 s n ≡ front (take n s) o
+front-first o s n h = let e : 0 + n ≡ n = omega arith in rw (e, length-take-le n s h)
