@@ -8,3 +8,4 @@ pub mod TokenFacts
 pub mod CallCases
 pub mod SkipLaws
 pub mod NumberLaws
+pub mod StringLaws

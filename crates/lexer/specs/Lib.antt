@@ -11,3 +11,4 @@ pub mod Token
 pub mod Lexer
 pub mod Answers
 pub mod Numerals
+pub mod Pieces

@@ -3,3 +3,4 @@
 pub mod look; // look.rt: one cell and a class
 pub mod skip; // skip.rt: whitespace and comments
 pub mod number; // number.rt: numbers
+pub mod string; // string.rt: string literals

@@ -1,0 +1,257 @@
+// String literals, in two passes: the first reads without writing, so that a string that breaks off has written nothing.
+ghost use mathlib.Core.Path.{_≡_};
+ghost use mathlib.Core.Bool.{_||_};
+ghost use mathlib.Core.List.{List, []};
+ghost use Prim.Native.Nat.{ℕ, _+_, _≤_, _<_};
+ghost use lib.Dec.{eqb};
+ghost use lib.ListN.{length};
+ghost use Rattle.reading.specs.Goes.{Goes};
+ghost use Rattle.reading.specs.Slices.{Wrote};
+ghost use Rattle.text.specs.Limits.{maxChars};
+ghost use Rattle.lexer.specs.Read as read;
+ghost use Rattle.lexer.specs.Text as spec;
+ghost use Rattle.lexer.specs.Token.{fuel};
+ghost use Rattle.lexer.specs.Pieces.{asPlain, Hexed, Pieced, Inside, Written};
+
+// The value of hexadecimal digits; or number, carry and place of a refusal.
+pub enum Hex {
+    Value(u32),
+    NoDigit(u32, u32, usize),
+}
+
+// The value of `count` digits from `from` on, 4 or 6.
+fn read_hex(rest: &[u32], from: usize, count: usize) -> Hex
+    requires { ⌜ (length (now rest) ≤ maxChars) × (count ≤ 6) × (from ≤ length (now rest)) ⌝ }
+    ensures { λ r. ⌜ Hexed (now (rest .entry)) from count r ⌝ }
+{
+    let mut value: u32 = 0;
+    let mut at = from;
+    let mut left = count;
+    while 0 < left {
+        if rest.len() <= at {
+            return Hex::NoDigit(4, 0, at);
+        }
+        let c = rest[at];
+        let d = text::hex::hex_to_decimal(c);
+        if 16 <= d {
+            return Hex::NoDigit(3, c, at);
+        }
+        value = value * 16 + d;
+        at += 1;
+        left -= 1;
+    }
+    Hex::Value(value)
+}
+
+// A character and the place behind it; where the quote, a line's end or the text's end stands; or number, carry, place and reach of a refusal.
+pub enum Piece {
+    Char(u32, usize),
+    Quote(usize),
+    LineEnd(usize),
+    TextEnd(usize),
+    Refused(u32, u32, usize, usize),
+}
+
+// How many digits follow the letter of an escape.
+fn digit_count(x: u32) -> usize
+    ensures { λ r. ⌜ (r ≡ spec.digitCount x) × (0 < r) × (r ≤ 6) ⌝ }
+{
+    if 0x55 == x {
+        return 6;
+    }
+    4
+}
+
+// The second half of a pair, whose first half is h and ended at i.
+fn read_second_half(rest: &[u32], h: u32, i: usize) -> Piece
+    requires { ⌜ (length (now rest) ≤ maxChars) × (i ≤ length (now rest)) × (0xD800 ≤ h) × (h ≤ 0xDBFF) ⌝ }
+    ensures { λ r. ⌜ Pieced (now (rest .entry)) i (λ _. spec.readSecondHalf h i) i r ⌝ }
+{
+    if rest.len() <= i + 1 {
+        return Piece::Refused(7, 0, i, i + 2);
+    }
+    let n = digit_count(rest[i + 1]);
+    let r = read_hex(rest, i + 2, n);
+    match r {
+        Hex::Value(l) => {
+            if l < 0xDC00 {
+                return Piece::Refused(6, l, i + 2 + n, i + 2 + n);
+            }
+            if 0xDFFF < l {
+                return Piece::Refused(6, l, i + 2 + n, i + 2 + n);
+            }
+            Piece::Char(0x10000 + (h - 0xD800) * 0x400 + (l - 0xDC00), i + 2 + n)
+        }
+        Hex::NoDigit(m, k, j) => Piece::Refused(m, k, j, j + 1),
+    }
+}
+
+// An escape with n digits from i on.
+fn read_unicode(rest: &[u32], i: usize, n: usize) -> Piece
+    requires { ⌜ (length (now rest) ≤ maxChars) × (i ≤ length (now rest)) × (0 < n) × (n ≤ 6) ⌝ }
+    ensures { λ r. ⌜ Pieced (now (rest .entry)) i (λ _. spec.readUnicode n i) i r ⌝ }
+{
+    let r = read_hex(rest, i, n);
+    match r {
+        Hex::Value(v) => {
+            if v < 0xD800 {
+                return Piece::Char(v, i + n);
+            }
+            if v <= 0xDBFF {
+                return read_second_half(rest, v, i + n);
+            }
+            if v <= 0xDFFF {
+                return Piece::Refused(5, v, i + n, i + n);
+            }
+            if 0x10FFFF < v {
+                return Piece::Refused(5, v, i + n, i + n);
+            }
+            Piece::Char(v, i + n)
+        }
+        Hex::NoDigit(m, k, j) => Piece::Refused(m, k, j, j + 1),
+    }
+}
+
+// What a plain escape stands for, or 0.
+fn plain_escape(c: u32) -> u32
+    ensures { λ r. ⌜ spec.plainEscape c ≡ asPlain r ⌝ }
+{
+    if 0x27 == c {
+        return 0x27;
+    }
+    if 0x22 == c {
+        return 0x22;
+    }
+    if 0x5C == c {
+        return 0x5C;
+    }
+    if 0x6E == c {
+        return 0x0A;
+    }
+    if 0x72 == c {
+        return 0x0D;
+    }
+    if 0x74 == c {
+        return 0x09;
+    }
+    0
+}
+
+fn is_unicode_letter(c: u32) -> bool
+    ensures { λ r. ⌜ r ≡ eqb 0x75 c || eqb 0x55 c ⌝ }
+{
+    if 0x75 == c {
+        return true;
+    }
+    0x55 == c
+}
+
+// An escape whose backslash stands at i and whose letter is c.
+fn read_escape(rest: &[u32], c: u32, i: usize) -> Piece
+    requires { ⌜ (length (now rest) ≤ maxChars) × (i + 2 ≤ length (now rest)) ⌝ }
+    ensures { λ r. ⌜ Pieced (now (rest .entry)) (i + 2) (λ _. spec.readEscape c i) i r ⌝ }
+{
+    let p = plain_escape(c);
+    if 0 < p {
+        return Piece::Char(p, i + 2);
+    }
+    if is_unicode_letter(c) {
+        let n = digit_count(c);
+        return read_unicode(rest, i + 2, n);
+    }
+    Piece::Char(0x5C, i + 1)
+}
+
+// The piece of a string's inside at i.
+fn read_piece(rest: &[u32], i: usize) -> Piece
+    requires { ⌜ (length (now rest) ≤ maxChars) × (i ≤ length (now rest)) ⌝ }
+    ensures { λ p. ⌜ ((r : ℕ) → r ≤ i + 1 → Pieced (now (rest .entry)) r (λ sofar. spec.readPiece i sofar) i p) ⌝ }
+{
+    if rest.len() <= i {
+        return Piece::TextEnd(i);
+    }
+    let x = rest[i];
+    if 0x5C == x {
+        if rest.len() <= i + 1 {
+            return Piece::Char(0x5C, i + 1);
+        }
+        return read_escape(rest, rest[i + 1], i);
+    }
+    if 0x22 == x {
+        return Piece::Quote(i + 1);
+    }
+    if text::classes::is_vertical_space(x) {
+        return Piece::LineEnd(i);
+    }
+    Piece::Char(x, i + 1)
+}
+
+// How many characters a string has and where it ends; where a line's end or the text's end broke it off; or number, carry, place and reach of a refusal.
+pub enum Literal {
+    Chars(usize, usize),
+    LineEnds(usize),
+    TextEnds(usize),
+    Broken(u32, u32, usize, usize),
+}
+
+// The string whose inside starts at `from`, without writing it.
+// Ruled out, among others: a lone half taken for a character; the reach of an escape's end taken for the quote's.
+pub fn read_string(rest: &[u32], from: usize) -> Literal
+    requires { ⌜ (length (now rest) ≤ maxChars) × (from ≤ length (now rest)) ⌝ }
+    ensures { λ r. ⌜ Inside (now (rest .entry)) from r ⌝ }
+{
+    let mut i = from;
+    let mut n: usize = 0;
+    loop {
+        let p = read_piece(rest, i);
+        match p {
+            Piece::Char(_, j) => {
+                i = j;
+            }
+            Piece::Quote(j) => {
+                return Literal::Chars(n, j);
+            }
+            Piece::LineEnd(j) => {
+                return Literal::LineEnds(j);
+            }
+            Piece::TextEnd(j) => {
+                return Literal::TextEnds(j);
+            }
+            Piece::Refused(m, k, j, q) => {
+                return Literal::Broken(m, k, j, q);
+            }
+        }
+        n += 1;
+    }
+}
+
+// Writes the characters of the string whose inside starts at `from` to the front of out, if it is one.
+pub fn write_string(rest: &[u32], from: usize, out: &mut [u32]) -> usize
+    requires { ⌜ (length (now rest) ≤ maxChars) × (from ≤ length (now rest)) × (length (now rest) ≤ length (now out)) ⌝ }
+    ensures { λ r. ⌜ Written (now (rest .entry)) from (now (out .entry)) r (now (out .exit)) ⌝ }
+{
+    let mut i = from;
+    let mut n: usize = 0;
+    loop {
+        let p = read_piece(rest, i);
+        match p {
+            Piece::Char(c, j) => {
+                out[n] = c;
+                i = j;
+            }
+            Piece::Quote(_) => {
+                return n;
+            }
+            Piece::LineEnd(_) => {
+                return n;
+            }
+            Piece::TextEnd(_) => {
+                return n;
+            }
+            Piece::Refused(_, _, _, _) => {
+                return n;
+            }
+        }
+        n += 1;
+    }
+}
