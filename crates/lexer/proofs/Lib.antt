@@ -9,3 +9,4 @@ pub mod CallCases
 pub mod SkipLaws
 pub mod NumberLaws
 pub mod StringLaws
+pub mod PartLaws

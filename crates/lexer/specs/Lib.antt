@@ -12,3 +12,4 @@ pub mod Lexer
 pub mod Answers
 pub mod Numerals
 pub mod Pieces
+pub mod Places

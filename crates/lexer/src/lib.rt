@@ -4,3 +4,4 @@ pub mod look; // look.rt: one cell and a class
 pub mod skip; // skip.rt: whitespace and comments
 pub mod number; // number.rt: numbers
 pub mod string; // string.rt: string literals
+pub mod parts; // parts.rt: the parts of a name
