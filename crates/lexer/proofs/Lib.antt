@@ -10,3 +10,4 @@ pub mod SkipLaws
 pub mod NumberLaws
 pub mod StringLaws
 pub mod PartLaws
+pub mod WalkLaws

@@ -3,6 +3,8 @@ use mathlib.Core.Bool.{Bool, true, cond}
 use mathlib.Core.List.{List, [], _∷_, map}
 use Prim.Native.Nat.{ℕ, zero, suc, _+_, _≤_, _<_}
 use lib.ListN.{length}
+use mathlib.Core.Path.{_≡_}
+use Rattle.reading.specs.Goes.{Sees}
 use Rattle.reading.specs.Look.{cellAt}
 use Rattle.reading.specs.Cells.{holds}
 use Rattle.reading.specs.Span.{past, part}
@@ -10,7 +12,8 @@ use Rattle.text.specs.Classes.{isWhitespace, isNamePart, isSymbol}
 use Rattle.names.specs.Trim.{trim}
 use Rattle.names.specs.Spelling.{spelled}
 use Rattle.lexer.specs.Parts as parts
-use Rattle.lexer.specs.Parts.{Part}
+use Rattle.lexer.specs.Parts.{Part, walk}
+use Rattle.lexer.specs.Token.{fuel}
 use Rattle.lexer.specs.Naming.{texts}
 use Rattle.lexer.specs.declared.parts.Next.{Next}
 use Rattle.lexer.specs.declared.parts.Next.the-variants.{At, Over}
@@ -51,3 +54,10 @@ prefix t (suc n) i = leads t (nextOf t i) (prefix t n (endOf (nextOf t i)))
 -- Parts as `Name::new` joins them, or joined by spaces, each trimmed.
 abbrev pub spelling : Bool → List Part → List ℕ
 spelling new ps = spelled new true (map trim (texts ps))
+
+-- The name that begins at `from` has so many parts, and the walk over them ends at `end`, which it has looked at.
+pub record Counted (t : List ℕ) (from parts end : ℕ) : Type 0 where
+  pub on : from + parts ≤ end
+  pub within : end ≤ length t
+  pub count : length (prefix t parts from) ≡ parts
+  pub sees : Sees {A = List Part × ℕ} t (walk fuel fuel from) (prefix t parts from, end) (end + 1)

@@ -3,7 +3,8 @@ ghost use mathlib.Core.Path.{_≡_};
 ghost use Prim.Native.Nat.{_≤_};
 ghost use lib.ListN.{length};
 ghost use Rattle.reading.specs.Slices.{Wrote};
-ghost use Rattle.lexer.specs.Places.{hereOf, startOf, nextOf, Placed, prefix, spelling};
+ghost use Rattle.text.specs.Limits.{maxChars};
+ghost use Rattle.lexer.specs.Places.{hereOf, startOf, nextOf, Placed, Counted, prefix, spelling};
 
 // At: where a part starts and ends. Over: where the walk ends.
 pub enum Next {
@@ -48,6 +49,34 @@ pub fn next_part(rest: &[u32], i: usize) -> Next
 {
     let j = part_start(rest, i);
     part_at(rest, j)
+}
+
+// How many parts a name has, and where the walk over them ends.
+pub struct Walked {
+    pub parts: usize,
+    pub end: usize,
+}
+
+// Counts the parts of the name that begins at `from`.
+// Ruled out, among others: the whitespace behind the last part left out of the walk; a part too many at the text's end.
+pub fn count_parts(rest: &[u32], from: usize) -> Walked
+    requires { ⌜ (length (now rest) ≤ maxChars) × (from ≤ length (now rest)) ⌝ }
+    ensures { λ r. ⌜ Counted (now (rest .entry)) from (r .parts) (r .end) ⌝ }
+{
+    let mut i = from;
+    let mut n: usize = 0;
+    loop {
+        let p = next_part(rest, i);
+        match p {
+            Next::At(_, e) => {
+                i = e;
+            }
+            Next::Over(e) => {
+                return Walked { parts: n, end: e };
+            }
+        }
+        n += 1;
+    }
 }
 
 // Writes the first n parts of the name at `from` to the front of out: as `Name::new` joins them, or by spaces.
