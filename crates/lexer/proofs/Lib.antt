@@ -11,3 +11,4 @@ pub mod NumberLaws
 pub mod StringLaws
 pub mod PartLaws
 pub mod WalkLaws
+pub mod BoundLaws

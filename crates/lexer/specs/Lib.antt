@@ -13,3 +13,4 @@ pub mod Answers
 pub mod Numerals
 pub mod Pieces
 pub mod Places
+pub mod Fit

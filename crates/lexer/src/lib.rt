@@ -5,3 +5,4 @@ pub mod skip; // skip.rt: whitespace and comments
 pub mod number; // number.rt: numbers
 pub mod string; // string.rt: string literals
 pub mod parts; // parts.rt: the parts of a name
+pub mod bound; // bound.rt: how many parts are worth a search

@@ -5,3 +5,4 @@ pub mod TightenLaws
 pub mod FlattenLaws
 pub mod SameLaws
 pub mod NameLaws
+pub mod InkLaws

@@ -4,3 +4,4 @@ pub mod Name
 pub mod Flatten
 pub mod Fixed
 pub mod Spelling
+pub mod Ink
