@@ -12,3 +12,4 @@ pub mod StringLaws
 pub mod PartLaws
 pub mod WalkLaws
 pub mod BoundLaws
+pub mod WindowLaws

@@ -14,3 +14,4 @@ pub mod Numerals
 pub mod Pieces
 pub mod Places
 pub mod Fit
+pub mod Shown

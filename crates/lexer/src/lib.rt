@@ -6,3 +6,4 @@ pub mod number; // number.rt: numbers
 pub mod string; // string.rt: string literals
 pub mod parts; // parts.rt: the parts of a name
 pub mod bound; // bound.rt: how many parts are worth a search
+pub mod window; // window.rt: twelve characters ahead
