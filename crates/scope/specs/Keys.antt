@@ -1,11 +1,11 @@
 -- The names that a scope holds. 01: nested contexts are flattened level by level, as `flattened_keys` does.
-use Prim.Native.Nat.{ℕ, zero, suc, _+_}
+use Prim.Native.Nat.{ℕ, zero, suc, _+_, _*_}
 use mathlib.Core.Bool.{Bool, cond, _||_}
 use mathlib.Core.List.{List, [], _∷_, _++_}
 use lib.Dec.{ltb, eqb}
 use Rattle.reading.specs.Codes.{codes}
 use Rattle.names.specs.Same.{member}
-use Rattle.scope.specs.Limits.{maxDepth}
+use Rattle.scope.specs.Limits.{maxName, maxDepth}
 use Rattle.scope.specs.Entries.{Entry, contextKind, ParsingScope}
 
 -- Each key of a nested context, bare and behind the context's name.
@@ -29,6 +29,10 @@ levels (suc n) d es = level (levels n (d + 1)) d es
 
 abbrev pub flattenedKeys : List Entry → List (List ℕ)
 flattenedKeys es = levels (suc maxDepth) 0 es
+
+-- No key is longer: a name for each of the depths, and " . " between two.
+abbrev pub longestKey : ℕ
+longestKey = suc maxDepth * maxName + maxDepth * 3
 
 -- Whether a flattened text is a name here: the one question that the lexer asks of a scope.
 unfoldable pub isName : ParsingScope → List ℕ → Bool

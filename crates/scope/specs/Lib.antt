@@ -5,3 +5,9 @@ pub mod Keys
 pub mod Broken
 pub mod Calls
 pub mod Lent
+pub mod Rows
+pub mod Answers
+pub mod Rests
+pub mod Written
+pub mod Listing
+pub mod Naming

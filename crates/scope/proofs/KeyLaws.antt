@@ -1,0 +1,91 @@
+-- Flattened keys, level by level, as the code meets them.
+use mathlib.Core.Path.{_≡_, refl, sym, _∙_}
+use mathlib.Core.Bool.{Bool, true, false, _&&_, _||_}
+use mathlib.Core.List.{List, [], _++_}
+use Prim.Native.Nat.{ℕ, zero, suc, _+_, _-_, _<_, _≤_}
+use native.Mathlib.Omega.{arith}
+use native.Mathlib.Numerals.{add-one}
+use lib.ListN.{length, getD, drop, take, length-append}
+use borrow.Author.Tests.{eq-eqb, ne-eqb, lt-ltb, le-ltb}
+use Rattle.reading.specs.Codes.{codes}
+use Rattle.names.specs.Same.{same, member}
+use Rattle.scope.specs.Entries.{Entry}
+use Rattle.scope.specs.Keys.{keysOf, level, levels}
+use Rattle.scope.specs.Lent.{held}
+use Rattle.scope.specs.Rows.{entryAt}
+use Rattle.scope.specs.Rests.{leads, past}
+use Rattle.scope.proofs.TextLaws.{member-append, member-qualified, past-zero, past-some}
+use Rattle.scope.proofs.CompareLaws.{lent-rest}
+use Rattle.scope.proofs.HeldLaws.{held-step, held-end}
+
+abbrev dot : List ℕ
+dot = codes " . "
+
+-- The loop over one level.
+module _ (x : List ℕ) (f : List Entry → List (List ℕ)) (d i k : ℕ) (ss ns : List (List ℕ)) (h : k ≤ length ss) (j : k ≤ length ns) where
+  pub level-end : k ≤ i → member x (level f d (drop i (held k ss ns))) ≡ false
+  unfolding level member
+  level-end g = rw (held-end i k ss ns g h j)
+
+  module _ (g : i < k) where
+    pub level-less : getD (getD ss i []) 1 0 < d → member x (level f d (drop i (held k ss ns))) ≡ false
+    unfolding level member
+    level-less e = rw (held-step i k ss ns g h j, lt-ltb _ _ e)
+
+    pub level-deeper : d ≤ getD (getD ss i []) 1 0 → (getD (getD ss i []) 1 0 ≡ d → ⊥) → member x (level f d (drop i (held k ss ns))) ≡ member x (level f d (drop (i + 1) (held k ss ns)))
+    unfolding level
+    level-deeper e n = rw (add-one, held-step i k ss ns g h j, le-ltb _ _ e, ne-eqb _ _ n)
+
+    pub level-here : getD (getD ss i []) 1 0 ≡ d → member x (level f d (drop i (held k ss ns))) ≡ member x (keysOf f (entryAt ss ns i) (drop (i + 1) (held k ss ns))) || member x (level f d (drop (i + 1) (held k ss ns)))
+    unfolding level
+    level-here e = rw (add-one, held-step i k ss ns g h j, le-ltb (getD (getD ss i []) 1 0) d (omega arith), eq-eqb _ _ e) (member-append x _ _)
+
+    pub level-found : {b : Bool} → getD (getD ss i []) 1 0 ≡ d → b ≡ member x (keysOf f (entryAt ss ns i) (drop (i + 1) (held k ss ns))) → b ≡ true → member x (level f d (drop i (held k ss ns))) ≡ true
+    level-found e o t = level-here e ∙ rw (sym o ∙ t)
+
+    pub level-missed : {b : Bool} → getD (getD ss i []) 1 0 ≡ d → b ≡ member x (keysOf f (entryAt ss ns i) (drop (i + 1) (held k ss ns))) → b ≡ false → member x (level f d (drop i (held k ss ns))) ≡ member x (level f d (drop (i + 1) (held k ss ns)))
+    level-missed e o t = level-here e ∙ rw (sym o ∙ t)
+
+-- One entry.
+module _ (x : List ℕ) (e : Entry) (es : List Entry) where
+  pub keys-itself : {b : Bool} (f : List Entry → List (List ℕ)) → b ≡ same (e .name) x → b ≡ true → member x (keysOf f e es) ≡ true
+  unfolding keysOf member
+  keys-itself f p t = rw (sym p ∙ t)
+
+  module _ {b : Bool} (p : b ≡ same (e .name) x) (t : b ≡ false) where
+    pub keys-variable : (f : List Entry → List (List ℕ)) → (e .kind ≡ 1 → ⊥) → member x (keysOf f e es) ≡ false
+    unfolding keysOf member
+    keys-variable f k = rw (sym p ∙ t, ne-eqb _ _ k)
+
+    keys-context : (f : List Entry → List (List ℕ)) → e .kind ≡ 1 → member x (keysOf f e es) ≡ member x (f es) || (leads (e .name ++ dot) x && member (drop (length (e .name ++ dot)) x) (f es))
+    unfolding keysOf member
+    keys-context f k = rw (sym p ∙ t, eq-eqb _ _ k) (member-qualified x (e .name) (f es))
+
+    pub keys-last : (n d : ℕ) → e .kind ≡ 1 → n ≡ 0 → member x (keysOf (levels n d) e es) ≡ false
+    unfolding levels member
+    keys-last n d k z = keys-context (levels n d) k ∙ rw z (last (leads (e .name ++ dot) x))
+      where
+        last : (a : Bool) → a && false ≡ false
+        last true = refl
+        last false = refl
+
+    pub keys-below : (n d : ℕ) → e .kind ≡ 1 → (n ≡ 0 → ⊥) → member x (keysOf (levels n d) e es) ≡ member x (level (levels (n - 1) (d + 1)) d es) || (leads (e .name ++ dot) x && member (drop (length (e .name ++ dot)) x) (level (levels (n - 1) (d + 1)) d es))
+    unfolding levels
+    keys-below zero d k z = absurd (z refl)
+    keys-below (suc n) d k z = let m : suc n - 1 ≡ n = omega arith in keys-context (levels (suc n) d) k ∙ rw m refl
+
+-- A context that is not the text itself, with levels below it.
+module _ (x : List ℕ) (e : Entry) (es : List Entry) (n d : ℕ) {b : Bool} (p : b ≡ same (e .name) x) (t : b ≡ false) (k : e .kind ≡ 1) (z : n ≡ 0 → ⊥)
+    {h : Bool} (q : h ≡ member x (level (levels (n - 1) (d + 1)) d es)) where
+  pub keys-found : h ≡ true → member x (keysOf (levels n d) e es) ≡ true
+  keys-found u = keys-below x e es p t n d k z ∙ rw (sym q ∙ u)
+
+  module _ (u : h ≡ false) {m : ℕ} (s : m ≡ past (e .name ++ dot) x) where
+    three : length (e .name) + 3 ≡ suc (length (e .name) + 2)
+    three = omega arith
+
+    pub keys-none : m ≡ 0 → member x (keysOf (levels n d) e es) ≡ false
+    keys-none v = keys-below x e es p t n d k z ∙ rw (sym q ∙ u, past-zero (length (e .name) + 2) (e .name ++ dot) x (length-append (e .name) dot ∙ three) s v)
+
+    pub keys-path : (m ≡ 0 → ⊥) → {a : Bool} → a ≡ member (take (length x - m) (drop m x)) (level (levels (n - 1) (d + 1)) d es) → a ≡ member x (keysOf (levels n d) e es)
+    keys-path v f = let w = past-some (e .name ++ dot) x s v in f ∙ rw (lent-rest x m) (sym (keys-below x e es p t n d k z ∙ rw (sym q ∙ u, w .0, sym (w .1))))

@@ -1,0 +1,22 @@
+-- The code's scope and its answers, in the terms of the definitions.
+use Prim.Native.Nat.{ℕ}
+use mathlib.Core.Path.{_≡_}
+use mathlib.Core.List.{List}
+use Rattle.scope.specs.declared.scope.Scope.{Scope}
+use Rattle.scope.specs.declared.scope.Changed.{Changed as Answer}
+use Rattle.scope.specs.declared.scope.Changed.the-variants.{Done, Refused}
+use Rattle.scope.specs.Calls.{Changed, changed, refused}
+use Rattle.scope.specs.Lent.{Lent, scopeOf}
+
+-- Counts with the rows that are lent beside them.
+abbrev pub lent : Scope → List (List ℕ) → List (List ℕ) → Lent
+lent s ss ns = record { contexts = s .contexts; entries = s .entries; parsed = s .parsed; slots = ss; names = ns }
+
+abbrev pub answerOf : Answer → List (List ℕ) → List (List ℕ) → Changed
+answerOf (Done s) ss ns = changed (scopeOf (lent s ss ns))
+answerOf (Refused n) ss ns = refused n
+
+-- A refused call leaves the lent rows as they were. Of the rows that a scope does not use nothing is said behind a call that is not refused.
+abbrev pub Kept : Answer → List (List ℕ) → List (List ℕ) → Type 0
+Kept (Done s) rows rows′ = Unit {0}
+Kept (Refused n) rows rows′ = rows′ ≡ rows
