@@ -154,6 +154,25 @@ module _ (t : List ℕ) where
   prefix-take (suc m) zero i h = absurd (omega arith)
   prefix-take (suc m) (suc n) i h = take-leads m n (nextOf t i) (λ e. prefix-take m n e (omega arith))
 
+  here-placed : (i : ℕ) → i ≤ length t → Placed t i (hereOf t i)
+  unfolding hereOf
+  here-placed i h = by-test (Placed t i) (holds isNamePart (cellAt t i)) (λ a. let d = passed isNamePart t i h in (omega arith, passed-more d a, d .within))
+      (λ _. by-test (Placed t i) (holds isSymbol (cellAt t i)) (λ b. let l = cell-there isSymbol t i b in (omega arith, omega arith, omega arith)) (λ _. (omega arith, h)))
+
+  start-within : (i : ℕ) → i ≤ length t → (i ≤ startOf t i) × (startOf t i ≤ length t)
+  unfolding startOf
+  start-within i h = by-test In (holds isNamePart (cellAt t i)) (λ _. (omega arith, h)) (λ _. by-test In (holds isSymbol (cellAt t i)) (λ _. (omega arith, h)) (λ _. let d = passed isWhitespace t i h in (d .from, d .within)))
+    where
+      In : ℕ → Type 0
+      In n = (i ≤ n) × (n ≤ length t)
+
+  further : (i j : ℕ) → i ≤ j → (n : Next) → Placed t j n → Placed t i n
+  further i j h (At s e) p = (omega (arith, p .0), p .1, p .2)
+  further i j h (Over e) p = (omega (arith, p .0), p .1)
+
+  pub next-placed : (i : ℕ) → i ≤ length t → Placed t i (nextOf t i)
+  next-placed i h = let s = start-within i h in further i (startOf t i) (s .0) (nextOf t i) (here-placed (startOf t i) (s .1))
+
 -- A loop along a name, which began at `from`, stands at i behind n parts.
 pub record Passing (t : List ℕ) (from i n : ℕ) : Type 0 where
   pub parts : List Part

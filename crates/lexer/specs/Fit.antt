@@ -2,9 +2,11 @@
 use mathlib.Core.Path.{_≡_}
 use mathlib.Core.Bool.{Bool, true, cond}
 use mathlib.Core.List.{List}
-use Prim.Native.Nat.{ℕ, zero, suc, _≤_}
+use Prim.Native.Nat.{ℕ, zero, suc, _≤_, _<_}
 use lib.ListN.{length}
-use Rattle.lexer.specs.Naming.{fits}
+use Rattle.reading.specs.Slices.{zeros}
+use Rattle.lexer.specs.Flags.{Flags}
+use Rattle.lexer.specs.Naming.{fits, isProperty, isFound}
 use Rattle.lexer.specs.Places.{prefix}
 
 -- The most parts, at most n, whose flattening is found; 0 if there are none.
@@ -16,3 +18,21 @@ fit found t from (suc n) = cond (fits found (prefix t (suc n) from)) (suc n) (fi
 pub record Bounded (t : List ℕ) (from n cap m : ℕ) : Type 0 where
   pub less : m ≤ n
   pub so : (found : List ℕ → Bool) → ((l : List ℕ) → found l ≡ true → length l ≤ cap) → fit found t from n ≡ fit found t from m
+
+-- No name has more than cap cells.
+pub record Capped (isName : List ℕ → Bool) (cap : ℕ) : Type 0 where
+  pub so : (x : List ℕ) → isName x ≡ true → length x ≤ cap
+
+-- A slice of zeros alone, as scratch is found and left.
+pub record Clear (o : List ℕ) : Type 0 where
+  pub all : o ≡ zeros (length o)
+
+-- Whether the text x is found, and whether as a property.
+pub record Asked (f : Flags) (isName : List ℕ → Bool) (x : List ℕ) (found property : Bool) : Type 0 where
+  pub any : found ≡ isFound f isName x
+  pub one : property ≡ isProperty f x
+
+-- The longest prefix found, of at most n parts, has so many parts, and is a property or not.
+pub record Longest (f : Flags) (isName : List ℕ → Bool) (t : List ℕ) (from n parts : ℕ) (property : Bool) : Type 0 where
+  pub most : parts ≡ fit (isFound f isName) t from n
+  pub one : 0 < parts → property ≡ fits (isProperty f) (prefix t parts from)

@@ -13,5 +13,7 @@ pub mod Answers
 pub mod Numerals
 pub mod Pieces
 pub mod Places
+pub mod FlagsOf
+pub mod Taken
 pub mod Fit
 pub mod Shown

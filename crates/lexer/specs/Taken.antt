@@ -1,0 +1,30 @@
+-- What the code of the token reader answers, in the terms of the definitions.
+use mathlib.Core.Path.{_≡_}
+use mathlib.Core.Bool.{Bool}
+use mathlib.Core.List.{List}
+use Prim.Native.Nat.{ℕ}
+use lib.ListN.{length}
+use Rattle.reading.specs.Goes.{Sees}
+use Rattle.reading.specs.Slices.{front}
+use Rattle.lexer.specs.Read.{Read, token, refused, nothing, truth, number, chars, outcome, cellsOf}
+use Rattle.lexer.specs.Flags.{Flags}
+use Rattle.lexer.specs.FlagsOf.{flagsOf}
+use Rattle.lexer.specs.Token.{readToken}
+use Rattle.lexer.specs.declared.token.Read.{Read as Answer}
+use Rattle.lexer.specs.declared.token.Read.the-variants.{Plain, Boolean, Numeric, Chars, Refused}
+use Rattle.lexer.specs.declared.token.Outcome.{Outcome}
+
+-- A reading as the code answers it: of a value's cells their number.
+abbrev pub coded : Read → Answer
+coded (token k nothing) = Plain k
+coded (token k (truth b)) = Boolean b
+coded (token k (number before after minus exponent)) = Numeric (length before) (length after) minus (length exponent)
+coded (token k (chars cs)) = Chars k (length cs)
+coded (refused n c) = Refused n c
+
+-- The token that the text t begins with was read, its value written to the front of o.
+pub record Taken (t : List ℕ) (isName : List ℕ → Bool) (f : Flags) (o : List ℕ) (r : Outcome) (o′ : List ℕ) : Type 0 where
+  pub read : Read
+  pub sees : Sees t (readToken isName f) (outcome read (r .used) (flagsOf (r .flags))) (r .reach)
+  pub shown : r .read ≡ coded read
+  pub left : o′ ≡ front (cellsOf read) o
