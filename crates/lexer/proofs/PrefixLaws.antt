@@ -22,12 +22,13 @@ use Rattle.names.specs.Name.{isSymbolText}
 use Rattle.names.specs.Fixed.{propertyNames, rangeProperties, dateProperties, timeProperties}
 use Rattle.names.proofs.Shorter.{trim-length}
 use Rattle.names.proofs.NameLaws.{spelled-by-space}
+use Rattle.scope.specs.Capped.{Capped}
 use Rattle.lexer.specs.Flags.{Flags}
 use Rattle.lexer.specs.Naming.{texts, fits, isProperty, isFound}
 use Rattle.lexer.specs.declared.parts.Next.{Next}
 use Rattle.lexer.specs.declared.parts.Next.the-variants.{At, Over}
 use Rattle.lexer.specs.Places.{nextOf, leads, endOf, Placed, prefix, spelling}
-use Rattle.lexer.specs.Fit.{fit, Clear, Capped, Asked, Longest}
+use Rattle.lexer.specs.Fit.{fit, Clear, Asked, Longest}
 use Rattle.lexer.proofs.WalkLaws.{next-placed}
 
 length-zeros : (n : ℕ) → length (zeros n) ≡ n

@@ -19,10 +19,6 @@ pub record Bounded (t : List ℕ) (from n cap m : ℕ) : Type 0 where
   pub less : m ≤ n
   pub so : (found : List ℕ → Bool) → ((l : List ℕ) → found l ≡ true → length l ≤ cap) → fit found t from n ≡ fit found t from m
 
--- No name has more than cap cells.
-pub record Capped (isName : List ℕ → Bool) (cap : ℕ) : Type 0 where
-  pub so : (x : List ℕ) → isName x ≡ true → length x ≤ cap
-
 -- A slice of zeros alone, as scratch is found and left.
 pub record Clear (o : List ℕ) : Type 0 where
   pub all : o ≡ zeros (length o)

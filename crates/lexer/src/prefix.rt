@@ -5,13 +5,14 @@ ghost use Prim.Native.Nat.{_*_, _≤_};
 ghost use lib.ListN.{length};
 ghost use Rattle.reading.specs.Slices.{Wrote, zeros};
 ghost use Rattle.scope.specs.Keys.{isName};
+ghost use Rattle.scope.specs.Capped.{Capped};
 ghost use Rattle.scope.specs.Lent.{isBroken, scopeOf};
 ghost use Rattle.scope.specs.Answers.{lent};
 ghost use Rattle.names.specs.Flatten.{flatten};
 ghost use Rattle.lexer.specs.Naming.{texts};
 ghost use Rattle.lexer.specs.Places.{prefix};
 ghost use Rattle.lexer.specs.FlagsOf.{flagsOf};
-ghost use Rattle.lexer.specs.Fit.{Capped, Clear, Asked, Longest};
+ghost use Rattle.lexer.specs.Fit.{Clear, Asked, Longest};
 use crate::flags::Flags;
 use scope::scope::Scope;
 

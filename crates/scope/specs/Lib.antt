@@ -2,6 +2,7 @@ pub mod Limits
 pub mod Entries
 pub mod Settled
 pub mod Keys
+pub mod Capped
 pub mod Broken
 pub mod Calls
 pub mod Lent
