@@ -21,6 +21,8 @@ use Rattle.scope.specs.Answers.{lent}
 use Rattle.scope.proofs.HeldLaws.{held-length}
 use Rattle.scope.proofs.WrittenLaws.{take-held, drop-held}
 use Rattle.scope.proofs.SoundLaws.{sound}
+use Rattle.scope.proofs.UnbrokenLaws.{parsed-leaves}
+use Rattle.scope.proofs.WholeLaws.{whole, fits-parsed}
 
 names-snoc : (es : List Entry) (e : Entry) → map (λ f. f .name) (es ++ (e ∷ [])) ≡ map (λ f. f .name) es ++ (e .name ∷ [])
 names-snoc [] e = refl
@@ -82,3 +84,9 @@ module _ (x : List ℕ) (s : Scope) (ss ns : List (List ℕ)) {b : Bool} (p : b 
             same-entries (s .entries) (s .parsed) (record { context = d; depth = k; kind = l; name = x }) (omega arith) (omega arith) (omega arith) a,
             one-parsed (s .entries) (s .parsed) (record { context = d; depth = k; kind = l; name = x }) (omega arith) (omega arith) (omega arith) a,
           )
+
+      pub add-whole : {ss′ ns′ : List (List ℕ)} (d k l : ℕ) → s .parsed < maxParsed
+          → Appended ss ns ss′ ns′ (maxEntries + s .parsed) (maxEntries + s .parsed + 1) (record { context = d; depth = k; kind = l; name = x } ∷ [])
+          → isBroken (lent (record { contexts = s .contexts; entries = s .entries; parsed = s .parsed + 1 }) ss′ ns′) ≡ false
+      add-whole {ss′} {ns′} d k l f a =
+          whole (lent s ss ns) (lent (record { contexts = s .contexts; entries = s .entries; parsed = s .parsed + 1 }) ss′ ns′) (addParsedName x) (λ z y. parsed-leaves z y x) (add-new d k l f a) (fits-parsed (sound (lent s ss ns) (sym p ∙ t)) f a)

@@ -24,6 +24,8 @@ use Rattle.scope.specs.Answers.{lent}
 use Rattle.scope.proofs.SearchLaws.{or-left, or-right}
 use Rattle.scope.proofs.HeldLaws.{held-length}
 use Rattle.scope.proofs.SoundLaws.{sound}
+use Rattle.scope.proofs.UnbrokenLaws.{push-list-leaves}
+use Rattle.scope.proofs.WholeLaws.{whole, fits-written}
 use Rattle.scope.proofs.LongestLaws.{short-name}
 use Rattle.scope.proofs.WrittenLaws.{appended-none, appended-more, behind}
 use Rattle.scope.proofs.ListLaws.{settled-end, settled-step}
@@ -159,3 +161,12 @@ module _ (s : Scope) (ss ns : List (List ℕ)) (cs : List ℕ) (rs : List (List 
             let a₁ = rw (raised-none (settled (listed (s .contexts + 1) cs rs)), e) at a in
             let z : to ≤ maxEntries = omega (arith, a₁ .place, m (suc (s .contexts))) in
             rw (sym p ∙ t, sym q ∙ u, broken ∙ v, le-ltb maxContexts (suc (s .contexts)) (omega arith), total, le-ltb maxEntries (s .entries + n) (omega arith), e, a₁ .reads, behind ss′ ss z (a₁ .slots-behind), behind ns′ ns z (a₁ .names-behind))
+
+        pub push-whole : {ss′ ns′ : List (List ℕ)} {to : ℕ} → n ≤ maxEntries - s .entries → Appended ss ns ss′ ns′ (s .entries) to (map (raised 0) (settled (listed (s .contexts + 1) cs rs)))
+            → isBroken (lent (record { contexts = s .contexts + 1; entries = to; parsed = s .parsed }) ss′ ns′) ≡ false
+        push-whole {ss′} {ns′} {to} f a =
+            let w = sound (lent s ss ns) (sym p ∙ t) in
+            let l = w .limits in
+            let z : to ≤ maxEntries = omega (arith, a .place, m (s .contexts + 1), map-length (raised 0) (settled (listed (s .contexts + 1) cs rs))) in
+            whole (lent s ss ns) (lent (record { contexts = s .contexts + 1; entries = to; parsed = s .parsed }) ss′ ns′) (pushList cs rs) (λ y u. push-list-leaves y u cs rs) (push-done f a)
+            (fits-written w (s .contexts + 1) (s .entries) to (omega arith) (omega arith) z (a .as-many-slots) (a .as-many-names) (a .short) (behind ss′ ss z (a .slots-behind)))

@@ -18,3 +18,5 @@ pub mod SettlesLaws
 pub mod NamingLaws
 pub mod NameCallLaws
 pub mod DeeperLaws
+pub mod UnbrokenLaws
+pub mod WholeLaws

@@ -9,7 +9,7 @@ use borrow.Author.Tests.{eq-eqb, ne-eqb, lt-ltb, le-ltb}
 use Rattle.text.specs.Refusals.{brokenScope, overLimit}
 use Rattle.scope.specs.declared.scope.Scope.{Scope}
 use Rattle.scope.specs.Limits.{maxContexts, maxEntries, maxDepth}
-use Rattle.scope.specs.Entries.{Entry, variable, contextKind}
+use Rattle.scope.specs.Entries.{Entry, variable, contextKind, ParsingScope}
 use Rattle.scope.specs.Settled.{settled}
 use Rattle.scope.specs.Broken.{isBrokenName}
 use Rattle.scope.specs.Calls.{Changed, changed, refused, under, top, deeper, added, setEntryName, setContext}
@@ -20,6 +20,8 @@ use Rattle.scope.specs.Naming.{without, Moved}
 use Rattle.scope.specs.Answers.{lent}
 use Rattle.scope.proofs.HeldLaws.{held-length}
 use Rattle.scope.proofs.SoundLaws.{sound}
+use Rattle.scope.proofs.UnbrokenLaws.{Unbroken, Leaves}
+use Rattle.scope.proofs.WholeLaws.{whole, fits-written}
 use Rattle.scope.proofs.SettlesLaws.{AllBelow, top-in, top-distinct, settles}
 use Rattle.scope.proofs.DeeperLaws.{listed-in, list-below, deeper-raised, settled-below}
 use Rattle.scope.proofs.AppendLaws.{map-length}
@@ -56,6 +58,17 @@ module _ (s : Scope) (ss ns : List (List ℕ)) {b : Bool} (p : b ≡ isBroken (l
       added-done h a =
           let k = sound (lent s ss ns) (sym p ∙ t) .limits in
           rw (ne-eqb _ _ z, le-ltb maxContexts (s .contexts) (omega arith), parts, total, le-ltb maxEntries (from + (left + suc m)) (omega arith), a .reads, a .slots-behind, a .names-behind)
+
+      pub added-whole : {ss′ ns′ : List (List ℕ)} {to : ℕ} → from + left + m < maxEntries → Moved ss ns ss′ ns′ from to maxEntries (without (suc maxDepth) x (drop from (held (s .entries) ss ns)) ++ (new ∷ settled tail))
+          → (call : ParsingScope → Changed) → ((w : ParsingScope) → Unbroken w → Leaves (call w))
+          → changed (scopeOf (lent (record { contexts = s .contexts; entries = to; parsed = s .parsed }) ss′ ns′)) ≡ onScope (lent s ss ns) call
+          → isBroken (lent (record { contexts = s .contexts; entries = to; parsed = s .parsed }) ss′ ns′) ≡ false
+      added-whole {ss′} {ns′} {to} h a call keeps e =
+          let k = sound (lent s ss ns) (sym p ∙ t) in
+          let l = k .limits in
+          let room : to ≤ maxEntries = omega (arith, a .place, length-append (without (suc maxDepth) x (drop from (held (s .entries) ss ns))) (new ∷ settled tail)) in
+          whole (lent s ss ns) (lent (record { contexts = s .contexts; entries = to; parsed = s .parsed }) ss′ ns′) call keeps e
+          (fits-written k (s .contexts) from to (omega arith) few room (a .as-many-slots) (a .as-many-names) (a .short) (a .slots-behind))
 
 module _ (s : Scope) (ss ns : List (List ℕ)) {b : Bool} (p : b ≡ isBroken (lent s ss ns)) (t : b ≡ false) (x : List ℕ) {c : Bool} (q : c ≡ isBrokenName x) where
   pub entry-broken : c ≡ true → refused brokenScope ≡ onScope (lent s ss ns) (setEntryName x)

@@ -12,12 +12,12 @@ use Rattle.names.specs.Same.{same}
 use Rattle.scope.specs.Limits.{maxName, maxDepth}
 use Rattle.scope.specs.Entries.{Entry}
 use Rattle.scope.specs.Lent.{held, anyTooLong}
-use Rattle.scope.specs.Rows.{entryAt}
+use Rattle.scope.specs.Rows.{entryAt, nameLength}
 use Rattle.scope.specs.Listing.{cutAfter, keep}
 use Rattle.scope.specs.Written.{Appended}
 use Rattle.scope.specs.Naming.{staysBeside, without, Moved}
 use Rattle.scope.proofs.HeldLaws.{held-step, held-end, short-at}
-use Rattle.scope.proofs.WrittenLaws.{held-snoc, behind}
+use Rattle.scope.proofs.WrittenLaws.{held-snoc, set-short, behind}
 
 module _ (cut : ℕ) (e : Entry) (x : List ℕ) where
   pub beside-cut : cut ≤ e .depth → false ≡ staysBeside cut e x
@@ -37,15 +37,16 @@ module _ (cut : ℕ) (e : Entry) (x : List ℕ) where
 module _ (ss ns : List (List ℕ)) (i to : ℕ) (g : to ≤ i) (h : i < length ss) (j : i < length ns) {b : Bool} where
   pub moved-not : b ≡ false → Moved ss ns ss ns to to (i + 1) (keep b (entryAt ss ns i))
   unfolding keep
-  moved-not e = rw e (record { as-many-slots = refl; as-many-names = refl; place = omega arith; reads = sym (append-nil (held to ss ns)); slots-behind = refl; names-behind = refl })
+  moved-not e = rw e (record { as-many-slots = refl; as-many-names = refl; place = omega arith; reads = sym (append-nil (held to ss ns)); short = λ k l f. f l; slots-behind = refl; names-behind = refl })
 
-  pub moved-one : b ≡ true → Moved ss ns (set ss to (getD ss i [])) (set ns to (getD ns i [])) to (to + 1) (i + 1) (keep b (entryAt ss ns i))
+  pub moved-one : nameLength ss i ≤ maxName → b ≡ true → Moved ss ns (set ss to (getD ss i [])) (set ns to (getD ns i [])) to (to + 1) (i + 1) (keep b (entryAt ss ns i))
   unfolding keep
-  moved-one e = rw e (record {
+  moved-one l e = rw e (record {
     as-many-slots = length-set ss to _;
     as-many-names = length-set ns to _;
     place = refl;
     reads = rw add-one (held-snoc to ss ns (getD ss i []) (getD ns i []) (omega arith) (omega arith));
+    short = set-short ss to (getD ss i []) (omega arith) l;
     slots-behind = drop-set-lt (i + 1) ss to _ (omega arith);
     names-behind = drop-set-lt (i + 1) ns to _ (omega arith);
   })
@@ -81,7 +82,7 @@ pub record Going (ss₀ ns₀ ss ns : List (List ℕ)) (from to count cut i : �
   pub rest : done ++ without cut x (drop i (held count ss₀ ns₀)) ≡ without (suc maxDepth) x (drop from (held count ss₀ ns₀))
 
 pub going-none : (ss ns : List (List ℕ)) (from count : ℕ) (x : List ℕ) → from ≤ count → Going ss ns ss ns from from count (suc maxDepth) from x
-going-none ss ns from count x h = record { inside = h; low = omega arith; done = []; moved = record { as-many-slots = refl; as-many-names = refl; place = omega arith; reads = sym (append-nil (held from ss ns)); slots-behind = refl; names-behind = refl }; rest = refl }
+going-none ss ns from count x h = record { inside = h; low = omega arith; done = []; moved = record { as-many-slots = refl; as-many-names = refl; place = omega arith; reads = sym (append-nil (held from ss ns)); short = λ k l f. f l; slots-behind = refl; names-behind = refl }; rest = refl }
 
 module _ {ss₀ ns₀ ss ns : List (List ℕ)} {from to count cut i : ℕ} {x : List ℕ} (g : Going ss₀ ns₀ ss ns from to count cut i x) (h : count ≤ length ss₀) (j : count ≤ length ns₀) where
   pub going-all : count ≤ i → Moved ss₀ ns₀ ss ns from to count (without (suc maxDepth) x (drop from (held count ss₀ ns₀)))
@@ -110,6 +111,7 @@ module _ {ss₀ ns₀ ss ns : List (List ℕ)} {from to count cut i : ℕ} {x : 
           as-many-names = m .as-many-names ∙ g .moved .as-many-names;
           place = rw length-append (omega (arith, n₁, g .moved .place));
           reads = m₁ ∙ rw (g .moved .reads) (append-assoc (held from ss₀ ns₀) (g .done) _);
+          short = λ k y f. m .short k y (λ z. g .moved .short k z f);
           slots-behind = m .slots-behind ∙ behind ss ss₀ up (g .moved .slots-behind);
           names-behind = m .names-behind ∙ behind ns ns₀ up (g .moved .names-behind);
         };
@@ -123,6 +125,7 @@ moved-appended {ss} {ns} {ss′} {ns′} {ss″} {ns″} {a} {es = es} {fs} p q 
   as-many-names = q .as-many-names ∙ p .as-many-names;
   place = rw length-append (omega (arith, q .place, p .place));
   reads = q .reads ∙ rw (p .reads) (append-assoc (held a ss ns) es fs);
+  short = λ i l f. q .short i l (λ m. p .short i m f);
   slots-behind = behind ss″ ss′ k (q .slots-behind) ∙ behind ss′ ss h (p .slots-behind);
   names-behind = behind ns″ ns′ k (q .names-behind) ∙ behind ns′ ns h (p .names-behind);
 }

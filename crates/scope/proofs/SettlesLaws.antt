@@ -24,7 +24,7 @@ eqb-sym a b = go (eqb a b) refl
     go true e = e ∙ sym (eq-eqb b a (sym (eqb-true a b e)))
     go false e = e ∙ sym (ne-eqb b a (λ z. eqb-false a b e (sym z)))
 
-same-sym : (x y : List ℕ) → same x y ≡ same y x
+pub same-sym : (x y : List ℕ) → same x y ≡ same y x
 unfolding same
 same-sym [] [] = refl
 same-sym [] (b ∷ y) = refl

@@ -20,6 +20,8 @@ use Rattle.scope.specs.Answers.{lent}
 use Rattle.scope.proofs.HeldLaws.{held-step, held-end, held-length}
 use Rattle.scope.proofs.WrittenLaws.{held-suc}
 use Rattle.scope.proofs.SoundLaws.{sound}
+use Rattle.scope.proofs.UnbrokenLaws.{pop-leaves, push-leaves}
+use Rattle.scope.proofs.WholeLaws.{whole, fits-fewer}
 
 -- The search for the first entry of context k.
 module _ (ss ns : List (List ℕ)) (count k i : ℕ) (h : count ≤ length ss) (j : count ≤ length ns) where
@@ -62,6 +64,13 @@ module _ (s : Scope) (ss ns : List (List ℕ)) {b : Bool} (p : b ≡ isBroken (l
   unfolding pop
   pop-one r e u = rw (sym p ∙ t, ne-eqb _ _ e, u)
 
+  pub pop-whole : (r : ℕ) → (s .contexts ≡ 0 → ⊥) → r ≤ s .entries → held r ss ns ≡ under (s .contexts) (held (s .entries) ss ns)
+      → isBroken (lent (record { contexts = s .contexts - 1; entries = r; parsed = s .parsed }) ss ns) ≡ false
+  pop-whole r e f u =
+      let w = sound (lent s ss ns) (sym p ∙ t) in
+      let l = w .limits in
+      whole (lent s ss ns) (lent (record { contexts = s .contexts - 1; entries = r; parsed = s .parsed }) ss ns) pop pop-leaves (pop-one r e u) (fits-fewer w (s .contexts - 1) r (omega arith) f)
+
   pub push-full : maxContexts ≤ s .contexts → refused overLimit ≡ onScope (lent s ss ns) pushDefault
   unfolding push anyBroken
   push-full e = rw (sym p ∙ t, lt-ltb maxContexts (suc (s .contexts)) (omega arith))
@@ -71,3 +80,8 @@ module _ (s : Scope) (ss ns : List (List ℕ)) {b : Bool} (p : b ≡ isBroken (l
   push-empty e =
       let w = sound (lent s ss ns) (sym p ∙ t) .limits in
       rw (sym p ∙ t, le-ltb maxContexts (suc (s .contexts)) (omega arith), append-nil (held (s .entries) ss ns), held-length (s .entries) ss ns (omega arith) (omega arith), le-ltb maxEntries (s .entries) (omega arith), add-one)
+
+  pub push-empty-whole : s .contexts < maxContexts → isBroken (lent (record { contexts = s .contexts + 1; entries = s .entries; parsed = s .parsed }) ss ns) ≡ false
+  push-empty-whole e =
+      let w = sound (lent s ss ns) (sym p ∙ t) in
+      whole (lent s ss ns) (lent (record { contexts = s .contexts + 1; entries = s .entries; parsed = s .parsed }) ss ns) pushDefault (λ z u. push-leaves z u [] tt) (push-empty e) (fits-fewer w (s .contexts + 1) (s .entries) (omega arith) (omega arith))

@@ -5,11 +5,13 @@ use Prim.Native.Nat.{ℕ, zero, suc, _+_, _-_, _<_, _≤_}
 use native.Mathlib.Omega.{arith}
 use native.Mathlib.Numerals.{add-one}
 use lib.ListN.{length, getD, drop, take, set, length-set, length-append}
-use lib.Seq.{take-append-seam, drop-set-lt, drop-drop}
+use lib.Seq.{take-append-seam, drop-set-lt, drop-drop, getD-set-same, getD-set-other}
+use Rattle.reading.proofs.Test.{by-order}
 use Rattle.reading.specs.Slices.{front}
+use Rattle.scope.specs.Limits.{maxName}
 use Rattle.scope.specs.Entries.{Entry}
 use Rattle.scope.specs.Lent.{entryOf, held}
-use Rattle.scope.specs.Rows.{entryAt}
+use Rattle.scope.specs.Rows.{entryAt, nameLength}
 use Rattle.scope.specs.Written.{Appended}
 
 pub held-snoc : (k : ℕ) (ss ns : List (List ℕ)) (s n : List ℕ) → k < length ss → k < length ns → held (suc k) (set ss k s) (set ns k n) ≡ held k ss ns ++ (entryOf s n ∷ [])
@@ -50,22 +52,27 @@ copy-more (a ∷ f) [] i h k = absurd (omega arith)
 copy-more (a ∷ f) (b ∷ o) zero h k = refl
 copy-more (a ∷ f) (b ∷ o) (suc i) h k = ap (λ z. a ∷ z) (copy-more f o i (omega arith) (omega arith))
 
+-- A row with a short name length written at `at`.
+pub set-short : (ss : List (List ℕ)) (at : ℕ) (r : List ℕ) → at < length ss → getD r 3 0 ≤ maxName → (i : ℕ) → i < at + 1 → (i < at → nameLength ss i ≤ maxName) → nameLength (set ss at r) i ≤ maxName
+set-short ss at r h s i l f = by-order i at (λ k. rw (getD-set-other ss at i r [] (λ q. absurd (omega arith))) (f k)) (λ k. let z : i ≡ at = omega arith in rw (z, getD-set-same ss at r [] h) s)
+
 abbrev one : ℕ → ℕ → ℕ → List ℕ → Entry
 one c d k n = record { context = c; depth = d; kind = k; name = n }
 
-pub appended-one : (ss ns : List (List ℕ)) (at c d k : ℕ) (x : List ℕ) {y : List ℕ} → at < length ss → at < length ns → y ≡ front x (getD ns at [])
+pub appended-one : (ss ns : List (List ℕ)) (at c d k : ℕ) (x : List ℕ) {y : List ℕ} → at < length ss → at < length ns → length x ≤ maxName → y ≡ front x (getD ns at [])
     → Appended ss ns (set ss at (c ∷ d ∷ k ∷ length x ∷ [])) (set ns at y) at (at + 1) (one c d k x ∷ [])
-appended-one ss ns at c d k x {y} h j e = record {
+appended-one ss ns at c d k x {y} h j l e = record {
   as-many-slots = length-set ss at _;
   as-many-names = length-set ns at _;
   place = refl;
   reads = rw add-one (held-snoc at ss ns (c ∷ d ∷ k ∷ length x ∷ []) y h j ∙ ap (λ z. held at ss ns ++ (one c d k z ∷ [])) (rw e (take-append-seam x _)));
+  short = set-short ss at (c ∷ d ∷ k ∷ length x ∷ []) h l;
   slots-behind = drop-set-lt (at + 1) ss at _ (omega arith);
   names-behind = drop-set-lt (at + 1) ns at _ (omega arith);
 }
 
 pub appended-none : (ss ns : List (List ℕ)) (at : ℕ) → Appended ss ns ss ns at at []
-appended-none ss ns at = record { as-many-slots = refl; as-many-names = refl; place = omega arith; reads = sym (append-nil (held at ss ns)); slots-behind = refl; names-behind = refl }
+appended-none ss ns at = record { as-many-slots = refl; as-many-names = refl; place = omega arith; reads = sym (append-nil (held at ss ns)); short = λ i h f. f h; slots-behind = refl; names-behind = refl }
 
 pub behind : {b c : ℕ} (l m : List (List ℕ)) → b ≤ c → drop b l ≡ drop b m → drop c l ≡ drop c m
 behind {b} {c} l m h e = let z : b + (c - b) ≡ c = omega arith in rw (← z, ← drop-drop (c - b) b l, ← drop-drop (c - b) b m, e)
@@ -78,6 +85,7 @@ appended-more {ss} {ns} {ss′} {ns′} {ss″} {ns″} {a} {b} {c} {es} {fs} p 
       as-many-names = q .as-many-names ∙ p .as-many-names;
       place = rw length-append (omega arith);
       reads = q .reads ∙ rw (p .reads) (append-assoc (held a ss ns) es fs);
+      short = λ i l f. q .short i l (λ m. p .short i m f);
       slots-behind = q .slots-behind ∙ behind ss′ ss h (p .slots-behind);
       names-behind = q .names-behind ∙ behind ns′ ns h (p .names-behind);
     }

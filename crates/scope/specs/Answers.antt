@@ -1,12 +1,13 @@
 -- The code's scope and its answers, in the terms of the definitions.
 use Prim.Native.Nat.{ℕ}
 use mathlib.Core.Path.{_≡_}
+use mathlib.Core.Bool.{false}
 use mathlib.Core.List.{List}
 use Rattle.scope.specs.declared.scope.Scope.{Scope}
 use Rattle.scope.specs.declared.scope.Changed.{Changed as Answer}
 use Rattle.scope.specs.declared.scope.Changed.the-variants.{Done, Refused}
 use Rattle.scope.specs.Calls.{Changed, changed, refused}
-use Rattle.scope.specs.Lent.{Lent, scopeOf}
+use Rattle.scope.specs.Lent.{Lent, scopeOf, isBroken}
 
 -- Counts with the rows that are lent beside them.
 abbrev pub lent : Scope → List (List ℕ) → List (List ℕ) → Lent
@@ -20,3 +21,8 @@ answerOf (Refused n) ss ns = refused n
 abbrev pub Kept : Answer → List (List ℕ) → List (List ℕ) → Type 0
 Kept (Done s) rows rows′ = Unit {0}
 Kept (Refused n) rows rows′ = rows′ ≡ rows
+
+-- An accepted call leaves a scope that is not broken: no later call refuses it with 10.
+abbrev pub Whole : Answer → List (List ℕ) → List (List ℕ) → Type 0
+Whole (Done s) ss ns = isBroken (lent s ss ns) ≡ false
+Whole (Refused n) ss ns = Unit {0}

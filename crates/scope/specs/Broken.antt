@@ -7,7 +7,7 @@ use lib.ListN.{length}
 use Rattle.text.specs.Classes.{isScalar}
 use Rattle.names.specs.Same.{member}
 use Rattle.scope.specs.Limits.{maxName, maxDepth}
-use Rattle.scope.specs.Entries.{Entry, contextKind}
+use Rattle.scope.specs.Entries.{Entry, contextKind, ParsingScope}
 use Rattle.scope.specs.Settled.{isRepeated}
 
 unfoldable pub allScalar : List ℕ → Bool
@@ -54,3 +54,7 @@ isBrokenSet (n ∷ ns) = isBrokenName n || member n ns || isBrokenSet ns
 unfoldable pub anyMisplaced : ℕ → ℕ → List Entry → Bool
 anyMisplaced count from [] = false
 anyMisplaced count from (e ∷ es) = ltb (e .context) from || ltb count (e .context) || anyMisplaced count (e .context) es
+
+-- What makes a scope broken, in whatever rows it is lent.
+abbrev pub isBrokenScope : ParsingScope → Bool
+isBrokenScope s = anyMisplaced (s .contexts) 1 (s .entries) || isBrokenList (s .entries) || anyRepeated (s .entries) || isBrokenSet (s .parsed)

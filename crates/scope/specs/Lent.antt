@@ -7,7 +7,7 @@ use lib.ListN.{length, getD, take, drop}
 use Rattle.text.specs.Refusals.{brokenScope}
 use Rattle.scope.specs.Limits.{maxContexts, maxEntries, maxParsed, maxName}
 use Rattle.scope.specs.Entries.{Entry, ParsingScope}
-use Rattle.scope.specs.Broken.{isBrokenList, anyRepeated, isBrokenSet, anyMisplaced}
+use Rattle.scope.specs.Broken.{isBrokenScope}
 use Rattle.scope.specs.Calls.{Changed, refused, push, setContext}
 
 -- Three counts; slots of an entry's context, depth, kind and name length; for each slot a row of 128 name cells.
@@ -48,8 +48,7 @@ isBroken l =
     ltb maxContexts (l .contexts) || ltb maxEntries (l .entries) || ltb maxParsed (l .parsed)
     || ltb (length (l .slots)) (maxEntries + maxParsed) || ltb (length (l .names)) (maxEntries + maxParsed)
     || anyTooLong (l .entries) (l .slots) || anyTooLong (l .parsed) (drop maxEntries (l .slots))
-    || anyMisplaced (l .contexts) 1 (scopeOf l .entries) || isBrokenList (scopeOf l .entries) || anyRepeated (scopeOf l .entries)
-    || isBrokenSet (scopeOf l .parsed)
+    || isBrokenScope (scopeOf l)
 
 -- A lent entry list: rows of depth, kind, name start and name length, and the cells that the names are spans of.
 abbrev pub spanned : ℕ → List ℕ → List ℕ → Entry

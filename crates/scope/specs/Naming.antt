@@ -1,13 +1,15 @@
 -- Entries without the one of a name at depth 0, and all below it.
-use Prim.Native.Nat.{ℕ, _+_}
+use Prim.Native.Nat.{ℕ, _+_, _<_, _≤_}
 use mathlib.Core.Path.{_≡_}
 use mathlib.Core.Bool.{Bool, _&&_, not}
 use mathlib.Core.List.{List, [], _∷_, _++_}
 use lib.Dec.{leb, eqb}
 use lib.ListN.{drop, length}
 use Rattle.names.specs.Same.{same}
+use Rattle.scope.specs.Limits.{maxName}
 use Rattle.scope.specs.Entries.{Entry}
 use Rattle.scope.specs.Lent.{held}
+use Rattle.scope.specs.Rows.{nameLength}
 use Rattle.scope.specs.Listing.{cutAfter, keep}
 
 -- Whether the entry stays beside a new one of this name at depth 0.
@@ -24,5 +26,6 @@ pub record Moved (ss ns ss′ ns′ : List (List ℕ)) (at to back : ℕ) (es : 
   pub as-many-names : length ns′ ≡ length ns
   pub place : to ≡ at + length es
   pub reads : held to ss′ ns′ ≡ held at ss ns ++ es
+  pub short : (i : ℕ) → i < to → (i < at → nameLength ss i ≤ maxName) → nameLength ss′ i ≤ maxName
   pub slots-behind : drop back ss′ ≡ drop back ss
   pub names-behind : drop back ns′ ≡ drop back ns

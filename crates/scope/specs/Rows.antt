@@ -10,6 +10,10 @@ use Rattle.scope.specs.Lent.{entryOf, held}
 abbrev pub entryAt : List (List ℕ) → List (List ℕ) → ℕ → Entry
 entryAt ss ns i = entryOf (getD ss i []) (getD ns i [])
 
+-- The name length in slot i.
+abbrev pub nameLength : List (List ℕ) → ℕ → ℕ
+nameLength ss i = getD (getD ss i []) 3 0
+
 -- The first i entries, nearest first, in front of those given.
 unfoldable pub earlier : ℕ → List Entry → List Entry → List Entry
 earlier zero es before = before

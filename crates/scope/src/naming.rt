@@ -7,10 +7,10 @@ ghost use lib.ListN.{length, drop, getD};
 ghost use Rattle.scope.specs.Limits.{maxName, maxEntries};
 ghost use Rattle.scope.specs.Calls as spec;
 ghost use Rattle.scope.specs.Lent.{held, anyTooLong, onScope, setContextList};
-ghost use Rattle.scope.specs.Rows.{entryAt};
+ghost use Rattle.scope.specs.Rows.{entryAt, nameLength};
 ghost use Rattle.scope.specs.Listing.{keep};
 ghost use Rattle.scope.specs.Naming.{staysBeside, without, Moved};
-ghost use Rattle.scope.specs.Answers.{lent, answerOf, Kept};
+ghost use Rattle.scope.specs.Answers.{lent, answerOf, Kept, Whole};
 use crate::broken;
 use crate::compare;
 use crate::list;
@@ -65,7 +65,7 @@ fn move_kept(
     to: usize,
     kept: bool,
 ) -> usize
-    requires { ⌜ (to ≤ i) × (i < length (now slots)) × (i < length (now names)) ⌝ }
+    requires { ⌜ (to ≤ i) × (i < length (now slots)) × (i < length (now names)) × (nameLength (now slots) i ≤ maxName) ⌝ }
     ensures { λ r. ⌜ Moved (now (slots .entry)) (now (names .entry)) (now (slots .exit)) (now (names .exit)) to r (i + 1) (keep kept (entryAt (now (slots .entry)) (now (names .entry)) i)) × (r ≤ i + 1) ⌝ }
 {
     if !kept {
@@ -129,7 +129,7 @@ pub fn set_entry_name(
     name: &[u32],
 ) -> Changed
     ensures { λ r. ⌜ (answerOf r (now (slots .exit)) (now (names .exit)) ≡ onScope (lent s (now (slots .entry)) (now (names .entry))) (spec.setEntryName (now (name .entry))))
-        × Kept r (now (slots .entry)) (now (slots .exit)) × Kept r (now (names .entry)) (now (names .exit)) ⌝ }
+        × Kept r (now (slots .entry)) (now (slots .exit)) × Kept r (now (names .entry)) (now (names .exit)) × Whole r (now (slots .exit)) (now (names .exit)) ⌝ }
 {
     if broken::is_broken(s, slots, names) {
         return Changed::Refused(10);
@@ -163,7 +163,7 @@ pub fn set_context(
     cells: &[u32],
 ) -> Changed
     ensures { λ r. ⌜ (answerOf r (now (slots .exit)) (now (names .exit)) ≡ onScope (lent s (now (slots .entry)) (now (names .entry))) (setContextList (now (name .entry)) (now (cells .entry)) (now (rows .entry))))
-        × Kept r (now (slots .entry)) (now (slots .exit)) × Kept r (now (names .entry)) (now (names .exit)) ⌝ }
+        × Kept r (now (slots .entry)) (now (slots .exit)) × Kept r (now (names .entry)) (now (names .exit)) × Whole r (now (slots .exit)) (now (names .exit)) ⌝ }
 {
     if broken::is_broken(s, slots, names) {
         return Changed::Refused(10);

@@ -2,7 +2,7 @@
 ghost use mathlib.Core.Path.{_≡_};
 ghost use Rattle.scope.specs.Calls as spec;
 ghost use Rattle.scope.specs.Lent.{onScope};
-ghost use Rattle.scope.specs.Answers.{lent, answerOf, Kept};
+ghost use Rattle.scope.specs.Answers.{lent, answerOf, Kept, Whole};
 use crate::broken;
 use crate::scope::Changed;
 use crate::scope::Scope;
@@ -17,7 +17,7 @@ pub fn add_parsed_name(
     name: &[u32],
 ) -> Changed
     ensures { λ r. ⌜ (answerOf r (now (slots .exit)) (now (names .exit)) ≡ onScope (lent s (now (slots .entry)) (now (names .entry))) (spec.addParsedName (now (name .entry))))
-        × Kept r (now (slots .entry)) (now (slots .exit)) × Kept r (now (names .entry)) (now (names .exit)) ⌝ }
+        × Kept r (now (slots .entry)) (now (slots .exit)) × Kept r (now (names .entry)) (now (names .exit)) × Whole r (now (slots .exit)) (now (names .exit)) ⌝ }
 {
     if broken::is_broken(s, slots, names) {
         return Changed::Refused(10);

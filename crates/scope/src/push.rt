@@ -9,7 +9,7 @@ ghost use Rattle.scope.specs.Settled.{settled};
 ghost use Rattle.scope.specs.Lent.{spanned, listed, anyOutside, onScope, pushList};
 ghost use Rattle.scope.specs.Listing.{anyBrokenTo, keep, raised};
 ghost use Rattle.scope.specs.Written.{Appended};
-ghost use Rattle.scope.specs.Answers.{lent, answerOf, Kept};
+ghost use Rattle.scope.specs.Answers.{lent, answerOf, Kept, Whole};
 use crate::broken;
 use crate::compare;
 use crate::list;
@@ -86,7 +86,7 @@ pub fn push(
     cells: &[u32],
 ) -> Changed
     ensures { λ r. ⌜ (answerOf r (now (slots .exit)) (now (names .exit)) ≡ onScope (lent s (now (slots .entry)) (now (names .entry))) (pushList (now (cells .entry)) (now (rows .entry))))
-        × Kept r (now (slots .entry)) (now (slots .exit)) × Kept r (now (names .entry)) (now (names .exit)) ⌝ }
+        × Kept r (now (slots .entry)) (now (slots .exit)) × Kept r (now (names .entry)) (now (names .exit)) × Whole r (now (slots .exit)) (now (names .exit)) ⌝ }
 {
     if broken::is_broken(s, slots, names) {
         return Changed::Refused(10);

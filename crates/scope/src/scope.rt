@@ -1,9 +1,12 @@
 // The counts of a scope. Its entries and parsed names stand in the rows that are lent beside it.
 ghost use mathlib.Core.Path.{_≡_};
+ghost use mathlib.Core.Bool.{false};
 ghost use mathlib.Core.List.{List};
-ghost use Prim.Native.Nat.{ℕ};
+ghost use Prim.Native.Nat.{ℕ, _+_, _≤_};
+ghost use lib.ListN.{length};
+ghost use Rattle.scope.specs.Limits.{maxEntries, maxParsed};
 ghost use Rattle.scope.specs.Entries.{opened};
-ghost use Rattle.scope.specs.Lent.{scopeOf};
+ghost use Rattle.scope.specs.Lent.{scopeOf, isBroken};
 ghost use Rattle.scope.specs.Answers.{lent};
 
 // How many contexts are stacked, and how many entries and parsed names are in use.
@@ -31,7 +34,8 @@ impl Scope {
 
     // One empty context.
     pub fn opened() -> Scope
-        ensures { λ r. ⌜ ((ss ns : List (List ℕ)) → scopeOf (lent r ss ns) ≡ opened) ⌝ }
+        ensures { λ r. ⌜ ((ss ns : List (List ℕ)) → scopeOf (lent r ss ns) ≡ opened)
+            × ((ss ns : List (List ℕ)) → maxEntries + maxParsed ≤ length ss → maxEntries + maxParsed ≤ length ns → isBroken (lent r ss ns) ≡ false) ⌝ }
     {
         Scope {
             contexts: 1,

@@ -4,7 +4,7 @@ ghost use Prim.Native.Nat.{_≤_};
 ghost use lib.ListN.{length, drop};
 ghost use Rattle.scope.specs.Calls as spec;
 ghost use Rattle.scope.specs.Lent.{held, onScope};
-ghost use Rattle.scope.specs.Answers.{lent, answerOf};
+ghost use Rattle.scope.specs.Answers.{lent, answerOf, Whole};
 use crate::broken;
 use crate::compare;
 use crate::scope::Changed;
@@ -29,7 +29,7 @@ pub fn before_context(slots: &[[u32; 4]], names: &[[u32; 128]], count: usize, k:
 // Pops the last context; the parsed names stay. Nothing is written.
 // Ruled out, among others: an empty stack refused; parsed names popped with their context.
 pub fn pop(s: Scope, slots: &[[u32; 4]], names: &[[u32; 128]]) -> Changed
-    ensures { λ r. ⌜ answerOf r (now (slots .entry)) (now (names .entry)) ≡ onScope (lent s (now (slots .entry)) (now (names .entry))) spec.pop ⌝ }
+    ensures { λ r. ⌜ (answerOf r (now (slots .entry)) (now (names .entry)) ≡ onScope (lent s (now (slots .entry)) (now (names .entry))) spec.pop) × Whole r (now (slots .entry)) (now (names .entry)) ⌝ }
 {
     if broken::is_broken(s, slots, names) {
         return Changed::Refused(10);
@@ -48,7 +48,7 @@ pub fn pop(s: Scope, slots: &[[u32; 4]], names: &[[u32; 128]]) -> Changed
 
 // Pushes an empty context. Nothing is written.
 pub fn push_default(s: Scope, slots: &[[u32; 4]], names: &[[u32; 128]]) -> Changed
-    ensures { λ r. ⌜ answerOf r (now (slots .entry)) (now (names .entry)) ≡ onScope (lent s (now (slots .entry)) (now (names .entry))) spec.pushDefault ⌝ }
+    ensures { λ r. ⌜ (answerOf r (now (slots .entry)) (now (names .entry)) ≡ onScope (lent s (now (slots .entry)) (now (names .entry))) spec.pushDefault) × Whole r (now (slots .entry)) (now (names .entry)) ⌝ }
 {
     if broken::is_broken(s, slots, names) {
         return Changed::Refused(10);

@@ -45,7 +45,7 @@ same-length-2 : tie.Need-same-length-2
 same-length-2 c = search needs
 
 returns-2 : tie.Need-returns-2
-returns-2 c = let a = c .before .before .before .args in (moved-one (a .slots .now) (a .names .now) (a .i) (a .to) (omega arith) (omega arith) (omega arith) (not-false _ (c .before .before .if1 .left)), omega arith)
+returns-2 c = let a = c .before .before .before .args in (moved-one (a .slots .now) (a .names .now) (a .i) (a .to) (omega arith) (omega arith) (omega arith) (c .before .before .before .pre .3) (not-false _ (c .before .before .if1 .left)), omega arith)
 
 pub move-kept-spec : {M : Type 1} → statement M
 move-kept-spec =

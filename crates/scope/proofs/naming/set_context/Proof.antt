@@ -9,8 +9,9 @@ use Rattle.scope.specs.Naming.{without}
 use Rattle.scope.specs.Answers.{lent}
 use Rattle.scope.proofs.SoundLaws.{sound}
 use Rattle.scope.proofs.LongestLaws.{short-name}
+use Rattle.scope.proofs.UnbrokenLaws.{context-list-leaves}
 use Rattle.scope.proofs.StackLaws.{call-broken}
-use Rattle.scope.proofs.NameCallLaws.{added-empty, added-full, added-done, context-outside, context-name, context-broken, context-added, count-below, new-place, context-moved}
+use Rattle.scope.proofs.NameCallLaws.{added-empty, added-full, added-done, added-whole, context-outside, context-name, context-broken, context-added, count-below, new-place, context-moved}
 use Rattle.scope.specs.Settled.{settled}
 use Rattle.scope.proofs.DeeperLaws.{listed-in, deeper-below, broken-more}
 use native.Mathlib.Omega.{arith}
@@ -39,7 +40,7 @@ same-length-2 : tie.Need-same-length-2
 same-length-2 c = search needs
 
 returns : tie.Need-returns
-returns c = let a = c .before .before .before .before .before .before .args in (call-broken (lent (a .s) (a .slots .now) (a .names .now)) (setContextList (a .name .now) (a .cells .now) (a .rows .now)) (c .before .is-broken .ensures) (c .if1 .taken), refl, refl)
+returns c = let a = c .before .before .before .before .before .before .args in (call-broken (lent (a .s) (a .slots .now) (a .names .now)) (setContextList (a .name .now) (a .cells .now) (a .rows .now)) (c .before .is-broken .ensures) (c .if1 .taken), refl, refl, tt)
 
 any-outside-requires : tie.Need-any-outside-requires
 any-outside-requires c κs = search needs
@@ -51,7 +52,7 @@ same-length-4 : tie.Need-same-length-4
 same-length-4 c = search needs
 
 returns-2 : tie.Need-returns-2
-returns-2 c = let a = c .before .before .before .before .before .before .before .before .args in (context-outside (a .s) (a .slots .now) (a .names .now) (c .before .before .before .is-broken .ensures) (c .before .before .if1 .left) (a .name .now) (a .cells .now) (a .rows .now) (c .before .any-outside .ensures) (c .if2 .taken), refl, refl)
+returns-2 c = let a = c .before .before .before .before .before .before .before .before .args in (context-outside (a .s) (a .slots .now) (a .names .now) (c .before .before .before .is-broken .ensures) (c .before .before .if1 .left) (a .name .now) (a .cells .now) (a .rows .now) (c .before .any-outside .ensures) (c .if2 .taken), refl, refl, tt)
 
 is-broken-name-requires : tie.Need-is-broken-name-requires
 is-broken-name-requires c κs = search needs
@@ -63,7 +64,7 @@ same-length-6 : tie.Need-same-length-6
 same-length-6 c = search needs
 
 returns-3 : tie.Need-returns-3
-returns-3 c = let a = c .before .before .before .before .before .before .before .before .before .before .args in (context-name (a .s) (a .slots .now) (a .names .now) (c .before .before .before .before .before .is-broken .ensures) (c .before .before .before .before .if1 .left) (a .name .now) (a .cells .now) (a .rows .now) (c .before .before .before .any-outside .ensures) (c .before .before .if2 .left) (c .before .is-broken-name .ensures ∙ rw (take-length (a .name .now))) (c .if3 .taken), refl, refl)
+returns-3 c = let a = c .before .before .before .before .before .before .before .before .before .before .args in (context-name (a .s) (a .slots .now) (a .names .now) (c .before .before .before .before .before .is-broken .ensures) (c .before .before .before .before .if1 .left) (a .name .now) (a .cells .now) (a .rows .now) (c .before .before .before .any-outside .ensures) (c .before .before .if2 .left) (c .before .is-broken-name .ensures ∙ rw (take-length (a .name .now))) (c .if3 .taken), refl, refl, tt)
 
 sub-any-broken : tie.Need-sub-any-broken
 sub-any-broken c = search needs
@@ -78,7 +79,7 @@ same-length-8 : tie.Need-same-length-8
 same-length-8 c = search needs
 
 returns-4 : tie.Need-returns-4
-returns-4 c = let a = c .before .before .before .before .before .before .before .before .before .before .before .before .args in (context-broken (a .s) (a .slots .now) (a .names .now) (c .before .before .before .before .before .before .before .is-broken .ensures) (c .before .before .before .before .before .before .if1 .left) (a .name .now) (a .cells .now) (a .rows .now) (c .before .before .before .before .before .any-outside .ensures) (c .before .before .before .before .if2 .left) (c .before .before .before .is-broken-name .ensures ∙ rw (take-length (a .name .now))) (c .before .before .if3 .left) (c .before .any-broken .ensures) (c .if4 .taken), refl, refl)
+returns-4 c = let a = c .before .before .before .before .before .before .before .before .before .before .before .before .args in (context-broken (a .s) (a .slots .now) (a .names .now) (c .before .before .before .before .before .before .before .is-broken .ensures) (c .before .before .before .before .before .before .if1 .left) (a .name .now) (a .cells .now) (a .rows .now) (c .before .before .before .before .before .any-outside .ensures) (c .before .before .before .before .if2 .left) (c .before .before .before .is-broken-name .ensures ∙ rw (take-length (a .name .now))) (c .before .before .if3 .left) (c .before .any-broken .ensures) (c .if4 .taken), refl, refl, tt)
 
 same-length-9 : tie.Need-same-length-9
 same-length-9 c = search needs
@@ -87,7 +88,7 @@ same-length-10 : tie.Need-same-length-10
 same-length-10 c = search needs
 
 returns-5 : tie.Need-returns-5
-returns-5 c = let a = c .before .before .before .before .before .before .before .before .before .before .before .before .before .before .args in (context-added (a .s) (a .slots .now) (a .names .now) (c .before .before .before .before .before .before .before .before .before .is-broken .ensures) (c .before .before .before .before .before .before .before .before .if1 .left) (a .name .now) (a .cells .now) (a .rows .now) (c .before .before .before .before .before .before .before .any-outside .ensures) (c .before .before .before .before .before .before .if2 .left) (c .before .before .before .before .before .is-broken-name .ensures ∙ rw (take-length (a .name .now))) (c .before .before .before .before .if3 .left) (c .before .before .before .any-broken .ensures) (c .before .before .if4 .left) (added-empty (a .s) (a .slots .now) (a .names .now) (c .before .before .before .before .before .before .before .before .before .is-broken .ensures) (c .before .before .before .before .before .before .before .before .if1 .left) (a .name .now) 1 (map deeper (listed (a .s .contexts) (a .cells .now) (a .rows .now))) (c .if5 .taken)), tt, tt)
+returns-5 c = let a = c .before .before .before .before .before .before .before .before .before .before .before .before .before .before .args in (context-added (a .s) (a .slots .now) (a .names .now) (c .before .before .before .before .before .before .before .before .before .is-broken .ensures) (c .before .before .before .before .before .before .before .before .if1 .left) (a .name .now) (a .cells .now) (a .rows .now) (c .before .before .before .before .before .before .before .any-outside .ensures) (c .before .before .before .before .before .before .if2 .left) (c .before .before .before .before .before .is-broken-name .ensures ∙ rw (take-length (a .name .now))) (c .before .before .before .before .if3 .left) (c .before .before .before .any-broken .ensures) (c .before .before .if4 .left) (added-empty (a .s) (a .slots .now) (a .names .now) (c .before .before .before .before .before .before .before .before .before .is-broken .ensures) (c .before .before .before .before .before .before .before .before .if1 .left) (a .name .now) 1 (map deeper (listed (a .s .contexts) (a .cells .now) (a .rows .now))) (c .if5 .taken)), tt, tt, sym (c .before .before .before .before .before .before .before .before .before .is-broken .ensures) ∙ c .before .before .before .before .before .before .before .before .if1 .left)
 
 before-context-requires : tie.Need-before-context-requires
 before-context-requires c κs = let a = c .before .before .before .before .before .before .before .before .before .before .before .before .before .before .before .before .args in let s = sound (lent (a .s) (a .slots .now) (a .names .now)) (sym (c .before .before .before .before .before .before .before .before .before .before .before .is-broken .ensures) ∙ c .before .before .before .before .before .before .before .before .before .before .if1 .left) in let w = s .limits in (omega arith, omega arith)
@@ -105,7 +106,7 @@ same-length-12 : tie.Need-same-length-12
 same-length-12 c = search needs
 
 returns-6 : tie.Need-returns-6
-returns-6 c = let a = c .before .before .before .before .before .before .before .before .before .before .before .before .before .before .before .before .before .before .before .before .before .args in (context-added (a .s) (a .slots .now) (a .names .now) (c .before .before .before .before .before .before .before .before .before .before .before .before .before .before .before .before .is-broken .ensures) (c .before .before .before .before .before .before .before .before .before .before .before .before .before .before .before .if1 .left) (a .name .now) (a .cells .now) (a .rows .now) (c .before .before .before .before .before .before .before .before .before .before .before .before .before .before .any-outside .ensures) (c .before .before .before .before .before .before .before .before .before .before .before .before .before .if2 .left) (c .before .before .before .before .before .before .before .before .before .before .before .before .is-broken-name .ensures ∙ rw (take-length (a .name .now))) (c .before .before .before .before .before .before .before .before .before .before .before .if3 .left) (c .before .before .before .before .before .before .before .before .before .before .any-broken .ensures) (c .before .before .before .before .before .before .before .before .before .if4 .left) (added-full (a .s) (a .slots .now) (a .names .now) (c .before .before .before .before .before .before .before .before .before .before .before .before .before .before .before .before .is-broken .ensures) (c .before .before .before .before .before .before .before .before .before .before .before .before .before .before .before .if1 .left) (a .name .now) 1 (map deeper (listed (a .s .contexts) (a .cells .now) (a .rows .now))) (c .before .before .before .before .before .before .before .if5 .left) (deeper-below (a .s .contexts) (listed (a .s .contexts) (a .cells .now) (a .rows .now)) (listed-in (a .s .contexts) (a .cells .now) (a .rows .now))) (c .before .before .before .before .before-context .ensures .0) (c .before .before .before .before .before-context .ensures .1) (c .before .before .before .before .before-context .ensures .2) (c .before .left-beside .ensures .1) (length (settled (map deeper (listed (a .s .contexts) (a .cells .now) (a .rows .now))))) refl (omega arith)), refl, refl)
+returns-6 c = let a = c .before .before .before .before .before .before .before .before .before .before .before .before .before .before .before .before .before .before .before .before .before .args in (context-added (a .s) (a .slots .now) (a .names .now) (c .before .before .before .before .before .before .before .before .before .before .before .before .before .before .before .before .is-broken .ensures) (c .before .before .before .before .before .before .before .before .before .before .before .before .before .before .before .if1 .left) (a .name .now) (a .cells .now) (a .rows .now) (c .before .before .before .before .before .before .before .before .before .before .before .before .before .before .any-outside .ensures) (c .before .before .before .before .before .before .before .before .before .before .before .before .before .if2 .left) (c .before .before .before .before .before .before .before .before .before .before .before .before .is-broken-name .ensures ∙ rw (take-length (a .name .now))) (c .before .before .before .before .before .before .before .before .before .before .before .if3 .left) (c .before .before .before .before .before .before .before .before .before .before .any-broken .ensures) (c .before .before .before .before .before .before .before .before .before .if4 .left) (added-full (a .s) (a .slots .now) (a .names .now) (c .before .before .before .before .before .before .before .before .before .before .before .before .before .before .before .before .is-broken .ensures) (c .before .before .before .before .before .before .before .before .before .before .before .before .before .before .before .if1 .left) (a .name .now) 1 (map deeper (listed (a .s .contexts) (a .cells .now) (a .rows .now))) (c .before .before .before .before .before .before .before .if5 .left) (deeper-below (a .s .contexts) (listed (a .s .contexts) (a .cells .now) (a .rows .now)) (listed-in (a .s .contexts) (a .cells .now) (a .rows .now))) (c .before .before .before .before .before-context .ensures .0) (c .before .before .before .before .before-context .ensures .1) (c .before .before .before .before .before-context .ensures .2) (c .before .left-beside .ensures .1) (length (settled (map deeper (listed (a .s .contexts) (a .cells .now) (a .rows .now))))) refl (omega arith)), refl, refl, tt)
 
 sub-if7 : tie.Need-sub-if7
 sub-if7 c = search needs
@@ -120,7 +121,7 @@ same-length-14 : tie.Need-same-length-14
 same-length-14 c = search needs
 
 returns-7 : tie.Need-returns-7
-returns-7 c = let a = c .before .before .before .before .before .before .before .before .before .before .before .before .before .before .before .before .before .before .before .before .before .before .before .args in (context-added (a .s) (a .slots .now) (a .names .now) (c .before .before .before .before .before .before .before .before .before .before .before .before .before .before .before .before .before .before .is-broken .ensures) (c .before .before .before .before .before .before .before .before .before .before .before .before .before .before .before .before .before .if1 .left) (a .name .now) (a .cells .now) (a .rows .now) (c .before .before .before .before .before .before .before .before .before .before .before .before .before .before .before .before .any-outside .ensures) (c .before .before .before .before .before .before .before .before .before .before .before .before .before .before .before .if2 .left) (c .before .before .before .before .before .before .before .before .before .before .before .before .before .before .is-broken-name .ensures ∙ rw (take-length (a .name .now))) (c .before .before .before .before .before .before .before .before .before .before .before .before .before .if3 .left) (c .before .before .before .before .before .before .before .before .before .before .before .before .any-broken .ensures) (c .before .before .before .before .before .before .before .before .before .before .before .if4 .left) (added-full (a .s) (a .slots .now) (a .names .now) (c .before .before .before .before .before .before .before .before .before .before .before .before .before .before .before .before .before .before .is-broken .ensures) (c .before .before .before .before .before .before .before .before .before .before .before .before .before .before .before .before .before .if1 .left) (a .name .now) 1 (map deeper (listed (a .s .contexts) (a .cells .now) (a .rows .now))) (c .before .before .before .before .before .before .before .before .before .if5 .left) (deeper-below (a .s .contexts) (listed (a .s .contexts) (a .cells .now) (a .rows .now)) (listed-in (a .s .contexts) (a .cells .now) (a .rows .now))) (c .before .before .before .before .before .before .before-context .ensures .0) (c .before .before .before .before .before .before .before-context .ensures .1) (c .before .before .before .before .before .before .before-context .ensures .2) (c .before .before .before .left-beside .ensures .1) (c .before .remaining .result) (count-below (listed (a .s .contexts) (a .cells .now) (a .rows .now)) (sym (c .before .before .before .before .before .before .before .before .before .before .before .before .any-broken .ensures (a .s .contexts)) ∙ c .before .before .before .before .before .before .before .before .before .before .before .if4 .left) (c .before .remaining .ensures (a .s .contexts))) (omega arith)), refl, refl)
+returns-7 c = let a = c .before .before .before .before .before .before .before .before .before .before .before .before .before .before .before .before .before .before .before .before .before .before .before .args in (context-added (a .s) (a .slots .now) (a .names .now) (c .before .before .before .before .before .before .before .before .before .before .before .before .before .before .before .before .before .before .is-broken .ensures) (c .before .before .before .before .before .before .before .before .before .before .before .before .before .before .before .before .before .if1 .left) (a .name .now) (a .cells .now) (a .rows .now) (c .before .before .before .before .before .before .before .before .before .before .before .before .before .before .before .before .any-outside .ensures) (c .before .before .before .before .before .before .before .before .before .before .before .before .before .before .before .if2 .left) (c .before .before .before .before .before .before .before .before .before .before .before .before .before .before .is-broken-name .ensures ∙ rw (take-length (a .name .now))) (c .before .before .before .before .before .before .before .before .before .before .before .before .before .if3 .left) (c .before .before .before .before .before .before .before .before .before .before .before .before .any-broken .ensures) (c .before .before .before .before .before .before .before .before .before .before .before .if4 .left) (added-full (a .s) (a .slots .now) (a .names .now) (c .before .before .before .before .before .before .before .before .before .before .before .before .before .before .before .before .before .before .is-broken .ensures) (c .before .before .before .before .before .before .before .before .before .before .before .before .before .before .before .before .before .if1 .left) (a .name .now) 1 (map deeper (listed (a .s .contexts) (a .cells .now) (a .rows .now))) (c .before .before .before .before .before .before .before .before .before .if5 .left) (deeper-below (a .s .contexts) (listed (a .s .contexts) (a .cells .now) (a .rows .now)) (listed-in (a .s .contexts) (a .cells .now) (a .rows .now))) (c .before .before .before .before .before .before .before-context .ensures .0) (c .before .before .before .before .before .before .before-context .ensures .1) (c .before .before .before .before .before .before .before-context .ensures .2) (c .before .before .before .left-beside .ensures .1) (c .before .remaining .result) (count-below (listed (a .s .contexts) (a .cells .now) (a .rows .now)) (sym (c .before .before .before .before .before .before .before .before .before .before .before .before .any-broken .ensures (a .s .contexts)) ∙ c .before .before .before .before .before .before .before .before .before .before .before .if4 .left) (c .before .remaining .ensures (a .s .contexts))) (omega arith)), refl, refl, tt)
 
 cast-replace : tie.Need-cast-replace
 cast-replace c = let a = c .before .before .before .before .before .before .before .before .before .before .before .before .before .before .before .before .before .before .before .before .before .before .before .before .before .before .args in let s = sound (lent (a .s) (a .slots .now) (a .names .now)) (sym (c .before .before .before .before .before .before .before .before .before .before .before .before .before .before .before .before .before .before .before .before .before .is-broken .ensures) ∙ c .before .before .before .before .before .before .before .before .before .before .before .before .before .before .before .before .before .before .before .before .if1 .left) in let w = s .limits in omega arith
@@ -141,7 +142,7 @@ same-length-16 : tie.Need-same-length-16
 same-length-16 c = search needs
 
 returns-8 : tie.Need-returns-8
-returns-8 c = let a = c .before .before .before .before .before .before .before .before .before .before .before .before .before .before .before .before .before .before .before .before .before .before .before .before .before .before .before .before .before .before .before .before .before .before .before .args in (context-added (a .s) (a .slots .now) (a .names .now) (c .before .before .before .before .before .before .before .before .before .before .before .before .before .before .before .before .before .before .before .before .before .before .before .before .before .before .before .before .before .before .is-broken .ensures) (c .before .before .before .before .before .before .before .before .before .before .before .before .before .before .before .before .before .before .before .before .before .before .before .before .before .before .before .before .before .if1 .left) (a .name .now) (a .cells .now) (a .rows .now) (c .before .before .before .before .before .before .before .before .before .before .before .before .before .before .before .before .before .before .before .before .before .before .before .before .before .before .before .before .any-outside .ensures) (c .before .before .before .before .before .before .before .before .before .before .before .before .before .before .before .before .before .before .before .before .before .before .before .before .before .before .before .if2 .left) (c .before .before .before .before .before .before .before .before .before .before .before .before .before .before .before .before .before .before .before .before .before .before .before .before .before .before .is-broken-name .ensures ∙ rw (take-length (a .name .now))) (c .before .before .before .before .before .before .before .before .before .before .before .before .before .before .before .before .before .before .before .before .before .before .before .before .before .if3 .left) (c .before .before .before .before .before .before .before .before .before .before .before .before .before .before .before .before .before .before .before .before .before .before .before .before .any-broken .ensures) (c .before .before .before .before .before .before .before .before .before .before .before .before .before .before .before .before .before .before .before .before .before .before .before .if4 .left) (added-done (a .s) (a .slots .now) (a .names .now) (c .before .before .before .before .before .before .before .before .before .before .before .before .before .before .before .before .before .before .before .before .before .before .before .before .before .before .before .before .before .before .is-broken .ensures) (c .before .before .before .before .before .before .before .before .before .before .before .before .before .before .before .before .before .before .before .before .before .before .before .before .before .before .before .before .before .if1 .left) (a .name .now) 1 (map deeper (listed (a .s .contexts) (a .cells .now) (a .rows .now))) (c .before .before .before .before .before .before .before .before .before .before .before .before .before .before .before .before .before .before .before .before .before .if5 .left) (deeper-below (a .s .contexts) (listed (a .s .contexts) (a .cells .now) (a .rows .now)) (listed-in (a .s .contexts) (a .cells .now) (a .rows .now))) (c .before .before .before .before .before .before .before .before .before .before .before .before .before .before .before .before .before .before .before-context .ensures .0) (c .before .before .before .before .before .before .before .before .before .before .before .before .before .before .before .before .before .before .before-context .ensures .1) (c .before .before .before .before .before .before .before .before .before .before .before .before .before .before .before .before .before .before .before-context .ensures .2) (c .before .before .before .before .before .before .before .before .before .before .before .before .before .before .before .left-beside .ensures .1) (c .before .before .before .before .before .before .before .before .before .before .before .before .before .remaining .result) (count-below (listed (a .s .contexts) (a .cells .now) (a .rows .now)) (sym (c .before .before .before .before .before .before .before .before .before .before .before .before .before .before .before .before .before .before .before .before .before .before .before .before .any-broken .ensures (a .s .contexts)) ∙ c .before .before .before .before .before .before .before .before .before .before .before .before .before .before .before .before .before .before .before .before .before .before .before .if4 .left) (c .before .before .before .before .before .before .before .before .before .before .before .before .before .remaining .ensures (a .s .contexts))) (omega arith) (context-moved (listed (a .s .contexts) (a .cells .now) (a .rows .now)) (sym (c .before .before .before .before .before .before .before .before .before .before .before .before .before .before .before .before .before .before .before .before .before .before .before .before .any-broken .ensures (a .s .contexts)) ∙ c .before .before .before .before .before .before .before .before .before .before .before .before .before .before .before .before .before .before .before .before .before .before .before .if4 .left) (c .before .before .before .before .before .before .before .before .before .before .before .before .before .remaining .ensures (a .s .contexts)) (without 8 (a .name .now) (drop (c .before .before .before .before .before .before .before .before .before .before .before .before .before .before .before .before .before .before .before-context .result) (held (a .s .entries) (a .slots .now) (a .names .now)))) (record { context = a .s .contexts; depth = 0; kind = 1; name = a .name .now }) (c .before .before .before .before .before .before .before .before .before .before .before .before .before .before .before .left-beside .ensures .1) (c .before .before .before .before .before .before .before .before .replace .ensures) (c .before .before .append .ensures) (omega arith))), tt, tt)
+returns-8 c = let a = c .before .before .before .before .before .before .before .before .before .before .before .before .before .before .before .before .before .before .before .before .before .before .before .before .before .before .before .before .before .before .before .before .before .before .before .args in let e = context-added (a .s) (a .slots .now) (a .names .now) (c .before .before .before .before .before .before .before .before .before .before .before .before .before .before .before .before .before .before .before .before .before .before .before .before .before .before .before .before .before .before .is-broken .ensures) (c .before .before .before .before .before .before .before .before .before .before .before .before .before .before .before .before .before .before .before .before .before .before .before .before .before .before .before .before .before .if1 .left) (a .name .now) (a .cells .now) (a .rows .now) (c .before .before .before .before .before .before .before .before .before .before .before .before .before .before .before .before .before .before .before .before .before .before .before .before .before .before .before .before .any-outside .ensures) (c .before .before .before .before .before .before .before .before .before .before .before .before .before .before .before .before .before .before .before .before .before .before .before .before .before .before .before .if2 .left) (c .before .before .before .before .before .before .before .before .before .before .before .before .before .before .before .before .before .before .before .before .before .before .before .before .before .before .is-broken-name .ensures ∙ rw (take-length (a .name .now))) (c .before .before .before .before .before .before .before .before .before .before .before .before .before .before .before .before .before .before .before .before .before .before .before .before .before .if3 .left) (c .before .before .before .before .before .before .before .before .before .before .before .before .before .before .before .before .before .before .before .before .before .before .before .before .any-broken .ensures) (c .before .before .before .before .before .before .before .before .before .before .before .before .before .before .before .before .before .before .before .before .before .before .before .if4 .left) (added-done (a .s) (a .slots .now) (a .names .now) (c .before .before .before .before .before .before .before .before .before .before .before .before .before .before .before .before .before .before .before .before .before .before .before .before .before .before .before .before .before .before .is-broken .ensures) (c .before .before .before .before .before .before .before .before .before .before .before .before .before .before .before .before .before .before .before .before .before .before .before .before .before .before .before .before .before .if1 .left) (a .name .now) 1 (map deeper (listed (a .s .contexts) (a .cells .now) (a .rows .now))) (c .before .before .before .before .before .before .before .before .before .before .before .before .before .before .before .before .before .before .before .before .before .if5 .left) (deeper-below (a .s .contexts) (listed (a .s .contexts) (a .cells .now) (a .rows .now)) (listed-in (a .s .contexts) (a .cells .now) (a .rows .now))) (c .before .before .before .before .before .before .before .before .before .before .before .before .before .before .before .before .before .before .before-context .ensures .0) (c .before .before .before .before .before .before .before .before .before .before .before .before .before .before .before .before .before .before .before-context .ensures .1) (c .before .before .before .before .before .before .before .before .before .before .before .before .before .before .before .before .before .before .before-context .ensures .2) (c .before .before .before .before .before .before .before .before .before .before .before .before .before .before .before .left-beside .ensures .1) (c .before .before .before .before .before .before .before .before .before .before .before .before .before .remaining .result) (count-below (listed (a .s .contexts) (a .cells .now) (a .rows .now)) (sym (c .before .before .before .before .before .before .before .before .before .before .before .before .before .before .before .before .before .before .before .before .before .before .before .before .any-broken .ensures (a .s .contexts)) ∙ c .before .before .before .before .before .before .before .before .before .before .before .before .before .before .before .before .before .before .before .before .before .before .before .if4 .left) (c .before .before .before .before .before .before .before .before .before .before .before .before .before .remaining .ensures (a .s .contexts))) (omega arith) (context-moved (listed (a .s .contexts) (a .cells .now) (a .rows .now)) (sym (c .before .before .before .before .before .before .before .before .before .before .before .before .before .before .before .before .before .before .before .before .before .before .before .before .any-broken .ensures (a .s .contexts)) ∙ c .before .before .before .before .before .before .before .before .before .before .before .before .before .before .before .before .before .before .before .before .before .before .before .if4 .left) (c .before .before .before .before .before .before .before .before .before .before .before .before .before .remaining .ensures (a .s .contexts)) (without 8 (a .name .now) (drop (c .before .before .before .before .before .before .before .before .before .before .before .before .before .before .before .before .before .before .before-context .result) (held (a .s .entries) (a .slots .now) (a .names .now)))) (record { context = a .s .contexts; depth = 0; kind = 1; name = a .name .now }) (c .before .before .before .before .before .before .before .before .before .before .before .before .before .before .before .left-beside .ensures .1) (c .before .before .before .before .before .before .before .before .replace .ensures) (c .before .before .append .ensures) (omega arith))) in (e, tt, tt, added-whole (a .s) (a .slots .now) (a .names .now) (c .before .before .before .before .before .before .before .before .before .before .before .before .before .before .before .before .before .before .before .before .before .before .before .before .before .before .before .before .before .before .is-broken .ensures) (c .before .before .before .before .before .before .before .before .before .before .before .before .before .before .before .before .before .before .before .before .before .before .before .before .before .before .before .before .before .if1 .left) (a .name .now) 1 (map deeper (listed (a .s .contexts) (a .cells .now) (a .rows .now))) (c .before .before .before .before .before .before .before .before .before .before .before .before .before .before .before .before .before .before .before .before .before .if5 .left) (deeper-below (a .s .contexts) (listed (a .s .contexts) (a .cells .now) (a .rows .now)) (listed-in (a .s .contexts) (a .cells .now) (a .rows .now))) (c .before .before .before .before .before .before .before .before .before .before .before .before .before .before .before .before .before .before .before-context .ensures .0) (c .before .before .before .before .before .before .before .before .before .before .before .before .before .before .before .before .before .before .before-context .ensures .1) (c .before .before .before .before .before .before .before .before .before .before .before .before .before .before .before .before .before .before .before-context .ensures .2) (c .before .before .before .before .before .before .before .before .before .before .before .before .before .before .before .left-beside .ensures .1) (c .before .before .before .before .before .before .before .before .before .before .before .before .before .remaining .result) (count-below (listed (a .s .contexts) (a .cells .now) (a .rows .now)) (sym (c .before .before .before .before .before .before .before .before .before .before .before .before .before .before .before .before .before .before .before .before .before .before .before .before .any-broken .ensures (a .s .contexts)) ∙ c .before .before .before .before .before .before .before .before .before .before .before .before .before .before .before .before .before .before .before .before .before .before .before .if4 .left) (c .before .before .before .before .before .before .before .before .before .before .before .before .before .remaining .ensures (a .s .contexts))) (omega arith) (context-moved (listed (a .s .contexts) (a .cells .now) (a .rows .now)) (sym (c .before .before .before .before .before .before .before .before .before .before .before .before .before .before .before .before .before .before .before .before .before .before .before .before .any-broken .ensures (a .s .contexts)) ∙ c .before .before .before .before .before .before .before .before .before .before .before .before .before .before .before .before .before .before .before .before .before .before .before .if4 .left) (c .before .before .before .before .before .before .before .before .before .before .before .before .before .remaining .ensures (a .s .contexts)) (without 8 (a .name .now) (drop (c .before .before .before .before .before .before .before .before .before .before .before .before .before .before .before .before .before .before .before-context .result) (held (a .s .entries) (a .slots .now) (a .names .now)))) (record { context = a .s .contexts; depth = 0; kind = 1; name = a .name .now }) (c .before .before .before .before .before .before .before .before .before .before .before .before .before .before .before .left-beside .ensures .1) (c .before .before .before .before .before .before .before .before .replace .ensures) (c .before .before .append .ensures) (omega arith)) (setContextList (a .name .now) (a .cells .now) (a .rows .now)) (λ w u. context-list-leaves w u (a .name .now) (a .cells .now) (a .rows .now)) e)
 
 pub set-context-spec : {M : Type 1} → statement M
 set-context-spec =

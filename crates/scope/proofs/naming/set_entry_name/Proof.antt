@@ -7,8 +7,9 @@ use Rattle.scope.specs.Answers.{lent}
 use Rattle.scope.specs.Settled.{settledFrom}
 use Rattle.scope.proofs.SoundLaws.{sound}
 use Rattle.scope.proofs.LongestLaws.{short-name}
+use Rattle.scope.proofs.UnbrokenLaws.{entry-leaves}
 use Rattle.scope.proofs.StackLaws.{call-broken}
-use Rattle.scope.proofs.NameCallLaws.{added-empty, added-full, added-done, entry-broken, entry-added}
+use Rattle.scope.proofs.NameCallLaws.{added-empty, added-full, added-done, added-whole, entry-broken, entry-added}
 use native.Mathlib.Omega.{arith}
 use borrow.Author.Needs.{needs}
 use Rattle.scope.proofs.naming.set_entry_name.Statement.{statement}
@@ -31,7 +32,7 @@ same-length-2 : tie.Need-same-length-2
 same-length-2 c = search needs
 
 returns : tie.Need-returns
-returns c = let a = c .before .before .before .before .before .args in (call-broken (lent (a .s) (a .slots .now) (a .names .now)) (setEntryName (a .name .now)) (c .before .is-broken .ensures) (c .if1 .taken), refl, refl)
+returns c = let a = c .before .before .before .before .before .args in (call-broken (lent (a .s) (a .slots .now) (a .names .now)) (setEntryName (a .name .now)) (c .before .is-broken .ensures) (c .if1 .taken), refl, refl, tt)
 
 is-broken-name-requires : tie.Need-is-broken-name-requires
 is-broken-name-requires c κs = search needs
@@ -43,7 +44,7 @@ same-length-4 : tie.Need-same-length-4
 same-length-4 c = search needs
 
 returns-2 : tie.Need-returns-2
-returns-2 c = let a = c .before .before .before .before .before .before .before .args in (entry-broken (a .s) (a .slots .now) (a .names .now) (c .before .before .before .is-broken .ensures) (c .before .before .if1 .left) (a .name .now) (c .before .is-broken-name .ensures ∙ rw (take-length (a .name .now))) (c .if2 .taken), refl, refl)
+returns-2 c = let a = c .before .before .before .before .before .before .before .args in (entry-broken (a .s) (a .slots .now) (a .names .now) (c .before .before .before .is-broken .ensures) (c .before .before .if1 .left) (a .name .now) (c .before .is-broken-name .ensures ∙ rw (take-length (a .name .now))) (c .if2 .taken), refl, refl, tt)
 
 same-length-5 : tie.Need-same-length-5
 same-length-5 c = search needs
@@ -52,7 +53,7 @@ same-length-6 : tie.Need-same-length-6
 same-length-6 c = search needs
 
 returns-3 : tie.Need-returns-3
-returns-3 c = let a = c .before .before .before .before .before .before .before .before .before .args in (entry-added (a .s) (a .slots .now) (a .names .now) (c .before .before .before .before .before .is-broken .ensures) (c .before .before .before .before .if1 .left) (a .name .now) (c .before .before .before .is-broken-name .ensures ∙ rw (take-length (a .name .now))) (c .before .before .if2 .left) (added-empty (a .s) (a .slots .now) (a .names .now) (c .before .before .before .before .before .is-broken .ensures) (c .before .before .before .before .if1 .left) (a .name .now) 0 [] (c .if3 .taken)), tt, tt)
+returns-3 c = let a = c .before .before .before .before .before .before .before .before .before .args in (entry-added (a .s) (a .slots .now) (a .names .now) (c .before .before .before .before .before .is-broken .ensures) (c .before .before .before .before .if1 .left) (a .name .now) (c .before .before .before .is-broken-name .ensures ∙ rw (take-length (a .name .now))) (c .before .before .if2 .left) (added-empty (a .s) (a .slots .now) (a .names .now) (c .before .before .before .before .before .is-broken .ensures) (c .before .before .before .before .if1 .left) (a .name .now) 0 [] (c .if3 .taken)), tt, tt, sym (c .before .before .before .before .before .is-broken .ensures) ∙ c .before .before .before .before .if1 .left)
 
 before-context-requires : tie.Need-before-context-requires
 before-context-requires c κs = let a = c .before .before .before .before .before .before .before .before .before .before .before .args in let s = sound (lent (a .s) (a .slots .now) (a .names .now)) (sym (c .before .before .before .before .before .before .before .is-broken .ensures) ∙ c .before .before .before .before .before .before .if1 .left) in let w = s .limits in (omega arith, omega arith)
@@ -71,7 +72,7 @@ same-length-8 c = search needs
 
 returns-4 : tie.Need-returns-4
 unfolding settledFrom
-returns-4 c = let a = c .before .before .before .before .before .before .before .before .before .before .before .before .before .before .before .before .args in (entry-added (a .s) (a .slots .now) (a .names .now) (c .before .before .before .before .before .before .before .before .before .before .before .before .is-broken .ensures) (c .before .before .before .before .before .before .before .before .before .before .before .if1 .left) (a .name .now) (c .before .before .before .before .before .before .before .before .before .before .is-broken-name .ensures ∙ rw (take-length (a .name .now))) (c .before .before .before .before .before .before .before .before .before .if2 .left) (added-full (a .s) (a .slots .now) (a .names .now) (c .before .before .before .before .before .before .before .before .before .before .before .before .is-broken .ensures) (c .before .before .before .before .before .before .before .before .before .before .before .if1 .left) (a .name .now) 0 [] (c .before .before .before .before .before .before .before .if3 .left) tt (c .before .before .before .before .before-context .ensures .0) (c .before .before .before .before .before-context .ensures .1) (c .before .before .before .before .before-context .ensures .2) (c .before .left-beside .ensures .1) 0 refl (omega arith)), refl, refl)
+returns-4 c = let a = c .before .before .before .before .before .before .before .before .before .before .before .before .before .before .before .before .args in (entry-added (a .s) (a .slots .now) (a .names .now) (c .before .before .before .before .before .before .before .before .before .before .before .before .is-broken .ensures) (c .before .before .before .before .before .before .before .before .before .before .before .if1 .left) (a .name .now) (c .before .before .before .before .before .before .before .before .before .before .is-broken-name .ensures ∙ rw (take-length (a .name .now))) (c .before .before .before .before .before .before .before .before .before .if2 .left) (added-full (a .s) (a .slots .now) (a .names .now) (c .before .before .before .before .before .before .before .before .before .before .before .before .is-broken .ensures) (c .before .before .before .before .before .before .before .before .before .before .before .if1 .left) (a .name .now) 0 [] (c .before .before .before .before .before .before .before .if3 .left) tt (c .before .before .before .before .before-context .ensures .0) (c .before .before .before .before .before-context .ensures .1) (c .before .before .before .before .before-context .ensures .2) (c .before .left-beside .ensures .1) 0 refl (omega arith)), refl, refl, tt)
 
 cast-replace : tie.Need-cast-replace
 cast-replace c = let a = c .before .before .before .before .before .before .before .before .before .before .before .before .before .before .before .before .before .before .before .args in let s = sound (lent (a .s) (a .slots .now) (a .names .now)) (sym (c .before .before .before .before .before .before .before .before .before .before .before .before .before .before .before .is-broken .ensures) ∙ c .before .before .before .before .before .before .before .before .before .before .before .before .before .before .if1 .left) in let w = s .limits in omega arith
@@ -87,7 +88,7 @@ same-length-10 c = search needs
 
 returns-5 : tie.Need-returns-5
 unfolding settledFrom
-returns-5 c = let a = c .before .before .before .before .before .before .before .before .before .before .before .before .before .before .before .before .before .before .before .before .before .before .args in (entry-added (a .s) (a .slots .now) (a .names .now) (c .before .before .before .before .before .before .before .before .before .before .before .before .before .before .before .before .before .before .is-broken .ensures) (c .before .before .before .before .before .before .before .before .before .before .before .before .before .before .before .before .before .if1 .left) (a .name .now) (c .before .before .before .before .before .before .before .before .before .before .before .before .before .before .before .before .is-broken-name .ensures ∙ rw (take-length (a .name .now))) (c .before .before .before .before .before .before .before .before .before .before .before .before .before .before .before .if2 .left) (added-done (a .s) (a .slots .now) (a .names .now) (c .before .before .before .before .before .before .before .before .before .before .before .before .before .before .before .before .before .before .is-broken .ensures) (c .before .before .before .before .before .before .before .before .before .before .before .before .before .before .before .before .before .if1 .left) (a .name .now) 0 [] (c .before .before .before .before .before .before .before .before .before .before .before .before .before .if3 .left) tt (c .before .before .before .before .before .before .before .before .before .before .before-context .ensures .0) (c .before .before .before .before .before .before .before .before .before .before .before-context .ensures .1) (c .before .before .before .before .before .before .before .before .before .before .before-context .ensures .2) (c .before .before .before .before .before .before .before .left-beside .ensures .1) 0 refl (omega arith) (c .before .before .replace .ensures)), tt, tt)
+returns-5 c = let a = c .before .before .before .before .before .before .before .before .before .before .before .before .before .before .before .before .before .before .before .before .before .before .args in let e = entry-added (a .s) (a .slots .now) (a .names .now) (c .before .before .before .before .before .before .before .before .before .before .before .before .before .before .before .before .before .before .is-broken .ensures) (c .before .before .before .before .before .before .before .before .before .before .before .before .before .before .before .before .before .if1 .left) (a .name .now) (c .before .before .before .before .before .before .before .before .before .before .before .before .before .before .before .before .is-broken-name .ensures ∙ rw (take-length (a .name .now))) (c .before .before .before .before .before .before .before .before .before .before .before .before .before .before .before .if2 .left) (added-done (a .s) (a .slots .now) (a .names .now) (c .before .before .before .before .before .before .before .before .before .before .before .before .before .before .before .before .before .before .is-broken .ensures) (c .before .before .before .before .before .before .before .before .before .before .before .before .before .before .before .before .before .if1 .left) (a .name .now) 0 [] (c .before .before .before .before .before .before .before .before .before .before .before .before .before .if3 .left) tt (c .before .before .before .before .before .before .before .before .before .before .before-context .ensures .0) (c .before .before .before .before .before .before .before .before .before .before .before-context .ensures .1) (c .before .before .before .before .before .before .before .before .before .before .before-context .ensures .2) (c .before .before .before .before .before .before .before .left-beside .ensures .1) 0 refl (omega arith) (c .before .before .replace .ensures)) in (e, tt, tt, added-whole (a .s) (a .slots .now) (a .names .now) (c .before .before .before .before .before .before .before .before .before .before .before .before .before .before .before .before .before .before .is-broken .ensures) (c .before .before .before .before .before .before .before .before .before .before .before .before .before .before .before .before .before .if1 .left) (a .name .now) 0 [] (c .before .before .before .before .before .before .before .before .before .before .before .before .before .if3 .left) tt (c .before .before .before .before .before .before .before .before .before .before .before-context .ensures .0) (c .before .before .before .before .before .before .before .before .before .before .before-context .ensures .1) (c .before .before .before .before .before .before .before .before .before .before .before-context .ensures .2) (c .before .before .before .before .before .before .before .left-beside .ensures .1) 0 refl (omega arith) (c .before .before .replace .ensures) (setEntryName (a .name .now)) (λ w u. entry-leaves w u (a .name .now)) e)
 
 pub set-entry-name-spec : {M : Type 1} → statement M
 set-entry-name-spec =

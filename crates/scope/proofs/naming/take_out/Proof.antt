@@ -33,7 +33,7 @@ index-2-depth : tie.Need-index-2-depth Inv-loop μ-loop
 index-2-depth c = omega arith
 
 move-kept-requires : tie.Need-move-kept-requires Inv-loop μ-loop
-move-kept-requires c κs = let g = c .before .before .before .before .before .before .before .loop .inv in (g .low, omega (arith, g .moved .as-many-slots), omega (arith, g .moved .as-many-names))
+move-kept-requires c κs = let g = c .before .before .before .before .before .before .before .loop .inv in (g .low, omega (arith, g .moved .as-many-slots), omega (arith, g .moved .as-many-names), let p = c .before .before .before .before .before .before .before .before .before .pre in going-short g (p .1) (p .2) (p .3) (omega arith))
 
 cut-after-requires : tie.Need-cut-after-requires Inv-loop μ-loop
 cut-after-requires c κs = search needs

@@ -5,7 +5,7 @@ use Rattle.scope.specs.Answers.{lent}
 use Rattle.scope.proofs.SoundLaws.{sound}
 use Rattle.scope.proofs.StackLaws.{call-broken}
 use Rattle.scope.specs.Lent.{pushList}
-use Rattle.scope.proofs.AppendLaws.{push-outside, push-broken, push-many, push-full, push-done}
+use Rattle.scope.proofs.AppendLaws.{push-outside, push-broken, push-many, push-full, push-done, push-whole}
 use native.Mathlib.Omega.{arith}
 use borrow.Author.Needs.{needs}
 use Rattle.scope.proofs.push.push.Statement.{statement}
@@ -28,7 +28,7 @@ same-length-2 : tie.Need-same-length-2
 same-length-2 c = search needs
 
 returns : tie.Need-returns
-returns c = let a = c .before .before .before .before .before .args in (call-broken (lent (a .s) (a .slots .now) (a .names .now)) (pushList (a .cells .now) (a .rows .now)) (c .before .is-broken .ensures) (c .if1 .taken), refl, refl)
+returns c = let a = c .before .before .before .before .before .args in (call-broken (lent (a .s) (a .slots .now) (a .names .now)) (pushList (a .cells .now) (a .rows .now)) (c .before .is-broken .ensures) (c .if1 .taken), refl, refl, tt)
 
 any-outside-requires : tie.Need-any-outside-requires
 any-outside-requires c κs = search needs
@@ -40,7 +40,7 @@ same-length-4 : tie.Need-same-length-4
 same-length-4 c = search needs
 
 returns-2 : tie.Need-returns-2
-returns-2 c = let a = c .before .before .before .before .before .before .before .args in (push-outside (a .s) (a .slots .now) (a .names .now) (a .cells .now) (a .rows .now) (c .before .before .before .is-broken .ensures) (c .before .before .if1 .left) (c .before .any-outside .ensures) (c .if2 .taken), refl, refl)
+returns-2 c = let a = c .before .before .before .before .before .before .before .args in (push-outside (a .s) (a .slots .now) (a .names .now) (a .cells .now) (a .rows .now) (c .before .before .before .is-broken .ensures) (c .before .before .if1 .left) (c .before .any-outside .ensures) (c .if2 .taken), refl, refl, tt)
 
 any-broken-requires : tie.Need-any-broken-requires
 any-broken-requires c κs = sym (c .before .any-outside .ensures) ∙ c .if2 .left
@@ -52,7 +52,7 @@ same-length-6 : tie.Need-same-length-6
 same-length-6 c = search needs
 
 returns-3 : tie.Need-returns-3
-returns-3 c = let a = c .before .before .before .before .before .before .before .before .before .args in (push-broken (a .s) (a .slots .now) (a .names .now) (a .cells .now) (a .rows .now) (c .before .before .before .before .before .is-broken .ensures) (c .before .before .before .before .if1 .left) (c .before .before .before .any-outside .ensures) (c .before .before .if2 .left) (c .before .any-broken .ensures) (c .if3 .taken), refl, refl)
+returns-3 c = let a = c .before .before .before .before .before .before .before .before .before .args in (push-broken (a .s) (a .slots .now) (a .names .now) (a .cells .now) (a .rows .now) (c .before .before .before .before .before .is-broken .ensures) (c .before .before .before .before .if1 .left) (c .before .before .before .any-outside .ensures) (c .before .before .if2 .left) (c .before .any-broken .ensures) (c .if3 .taken), refl, refl, tt)
 
 same-length-7 : tie.Need-same-length-7
 same-length-7 c = search needs
@@ -61,7 +61,7 @@ same-length-8 : tie.Need-same-length-8
 same-length-8 c = search needs
 
 returns-4 : tie.Need-returns-4
-returns-4 c = let a = c .before .before .before .before .before .before .before .before .before .before .before .args in (push-many (a .s) (a .slots .now) (a .names .now) (a .cells .now) (a .rows .now) (c .before .before .before .before .before .before .before .is-broken .ensures) (c .before .before .before .before .before .before .if1 .left) (c .before .before .before .before .before .any-outside .ensures) (c .before .before .before .before .if2 .left) (c .before .before .before .any-broken .ensures) (c .before .before .if3 .left) (omega arith), refl, refl)
+returns-4 c = let a = c .before .before .before .before .before .before .before .before .before .before .before .args in (push-many (a .s) (a .slots .now) (a .names .now) (a .cells .now) (a .rows .now) (c .before .before .before .before .before .before .before .is-broken .ensures) (c .before .before .before .before .before .before .if1 .left) (c .before .before .before .before .before .any-outside .ensures) (c .before .before .before .before .if2 .left) (c .before .before .before .any-broken .ensures) (c .before .before .if3 .left) (omega arith), refl, refl, tt)
 
 sub-if5 : tie.Need-sub-if5
 sub-if5 c = let a = c .before .before .before .before .before .before .before .before .before .before .before .before .args in let s = sound (lent (a .s) (a .slots .now) (a .names .now)) (sym (c .before .before .before .before .before .before .before .before .is-broken .ensures) ∙ c .before .before .before .before .before .before .before .if1 .left) in let w = s .limits in omega arith
@@ -76,7 +76,7 @@ same-length-10 : tie.Need-same-length-10
 same-length-10 c = search needs
 
 returns-5 : tie.Need-returns-5
-returns-5 c = let a = c .before .before .before .before .before .before .before .before .before .before .before .before .before .before .args in (push-full (a .s) (a .slots .now) (a .names .now) (a .cells .now) (a .rows .now) (c .before .before .before .before .before .before .before .before .before .before .is-broken .ensures) (c .before .before .before .before .before .before .before .before .before .if1 .left) (c .before .before .before .before .before .before .before .before .any-outside .ensures) (c .before .before .before .before .before .before .before .if2 .left) (c .before .before .before .before .before .before .any-broken .ensures) (c .before .before .before .before .before .if3 .left) (omega arith) (c .before .remaining .ensures) (omega arith), refl, refl)
+returns-5 c = let a = c .before .before .before .before .before .before .before .before .before .before .before .before .before .before .args in (push-full (a .s) (a .slots .now) (a .names .now) (a .cells .now) (a .rows .now) (c .before .before .before .before .before .before .before .before .before .before .is-broken .ensures) (c .before .before .before .before .before .before .before .before .before .if1 .left) (c .before .before .before .before .before .before .before .before .any-outside .ensures) (c .before .before .before .before .before .before .before .if2 .left) (c .before .before .before .before .before .before .any-broken .ensures) (c .before .before .before .before .before .if3 .left) (omega arith) (c .before .remaining .ensures) (omega arith), refl, refl, tt)
 
 add-append : tie.Need-add-append
 add-append c = search needs
@@ -97,7 +97,7 @@ same-length-12 : tie.Need-same-length-12
 same-length-12 c = search needs
 
 returns-6 : tie.Need-returns-6
-returns-6 c = let a = c .before .before .before .before .before .before .before .before .before .before .before .before .before .before .before .before .before .before .before .before .before .args in (push-done (a .s) (a .slots .now) (a .names .now) (a .cells .now) (a .rows .now) (c .before .before .before .before .before .before .before .before .before .before .before .before .before .before .before .before .before .is-broken .ensures) (c .before .before .before .before .before .before .before .before .before .before .before .before .before .before .before .before .if1 .left) (c .before .before .before .before .before .before .before .before .before .before .before .before .before .before .before .any-outside .ensures) (c .before .before .before .before .before .before .before .before .before .before .before .before .before .before .if2 .left) (c .before .before .before .before .before .before .before .before .before .before .before .before .before .any-broken .ensures) (c .before .before .before .before .before .before .before .before .before .before .before .before .if3 .left) (omega arith) (c .before .before .before .before .before .before .before .before .remaining .ensures) (omega arith) (c .before .before .before .append .ensures), tt, tt)
+returns-6 c = let a = c .before .before .before .before .before .before .before .before .before .before .before .before .before .before .before .before .before .before .before .before .before .args in (push-done (a .s) (a .slots .now) (a .names .now) (a .cells .now) (a .rows .now) (c .before .before .before .before .before .before .before .before .before .before .before .before .before .before .before .before .before .is-broken .ensures) (c .before .before .before .before .before .before .before .before .before .before .before .before .before .before .before .before .if1 .left) (c .before .before .before .before .before .before .before .before .before .before .before .before .before .before .before .any-outside .ensures) (c .before .before .before .before .before .before .before .before .before .before .before .before .before .before .if2 .left) (c .before .before .before .before .before .before .before .before .before .before .before .before .before .any-broken .ensures) (c .before .before .before .before .before .before .before .before .before .before .before .before .if3 .left) (omega arith) (c .before .before .before .before .before .before .before .before .remaining .ensures) (omega arith) (c .before .before .before .append .ensures), tt, tt, push-whole (a .s) (a .slots .now) (a .names .now) (a .cells .now) (a .rows .now) (c .before .before .before .before .before .before .before .before .before .before .before .before .before .before .before .before .before .is-broken .ensures) (c .before .before .before .before .before .before .before .before .before .before .before .before .before .before .before .before .if1 .left) (c .before .before .before .before .before .before .before .before .before .before .before .before .before .before .before .any-outside .ensures) (c .before .before .before .before .before .before .before .before .before .before .before .before .before .before .if2 .left) (c .before .before .before .before .before .before .before .before .before .before .before .before .before .any-broken .ensures) (c .before .before .before .before .before .before .before .before .before .before .before .before .if3 .left) (omega arith) (c .before .before .before .before .before .before .before .before .remaining .ensures) (omega arith) (c .before .before .before .append .ensures))
 
 pub push-spec : {M : Type 1} → statement M
 push-spec =

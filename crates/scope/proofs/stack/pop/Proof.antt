@@ -4,7 +4,7 @@ use mathlib.Core.Path.{sym, _∙_}
 use Rattle.scope.specs.Calls.{pop}
 use Rattle.scope.specs.Answers.{lent}
 use Rattle.scope.proofs.SoundLaws.{sound}
-use Rattle.scope.proofs.StackLaws.{call-broken, pop-empty, pop-one}
+use Rattle.scope.proofs.StackLaws.{call-broken, pop-empty, pop-one, pop-whole}
 use borrow.Author.Needs.{needs}
 use Rattle.scope.proofs.stack.pop.Statement.{statement}
 use Rattle.scope.proofs.stack.pop.Tie as tie
@@ -17,10 +17,10 @@ is-broken-requires : tie.Need-is-broken-requires
 is-broken-requires c κs = search needs
 
 returns : tie.Need-returns
-returns c = let a = c .before .before .args in call-broken (lent (a .s) (a .slots .now) (a .names .now)) pop (c .before .is-broken .ensures) (c .if1 .taken)
+returns c = let a = c .before .before .args in (call-broken (lent (a .s) (a .slots .now) (a .names .now)) pop (c .before .is-broken .ensures) (c .if1 .taken), tt)
 
 returns-2 : tie.Need-returns-2
-returns-2 c = let a = c .before .before .before .before .args in pop-empty (a .s) (a .slots .now) (a .names .now) (c .before .before .before .is-broken .ensures) (c .before .before .if1 .left) (c .if2 .taken)
+returns-2 c = let a = c .before .before .before .before .args in (pop-empty (a .s) (a .slots .now) (a .names .now) (c .before .before .before .is-broken .ensures) (c .before .before .if1 .left) (c .if2 .taken), sym (c .before .before .before .is-broken .ensures) ∙ c .before .before .if1 .left)
 
 before-context-requires : tie.Need-before-context-requires
 before-context-requires c κs = let a = c .before .before .before .before .args in let s = sound (lent (a .s) (a .slots .now) (a .names .now)) (sym (c .before .before .before .is-broken .ensures) ∙ c .before .before .if1 .left) in let w = s .limits in (omega arith, omega arith)
@@ -29,7 +29,7 @@ sub-t8 : tie.Need-sub-t8
 sub-t8 c = search needs
 
 returns-3 : tie.Need-returns-3
-returns-3 c = let a = c .before .before .before .before .before .before .args in pop-one (a .s) (a .slots .now) (a .names .now) (c .before .before .before .before .before .is-broken .ensures) (c .before .before .before .before .if1 .left) (c .before .before-context .result) (c .before .before .if2 .left) (c .before .before-context .ensures .1)
+returns-3 c = let a = c .before .before .before .before .before .before .args in (pop-one (a .s) (a .slots .now) (a .names .now) (c .before .before .before .before .before .is-broken .ensures) (c .before .before .before .before .if1 .left) (c .before .before-context .result) (c .before .before .if2 .left) (c .before .before-context .ensures .1), pop-whole (a .s) (a .slots .now) (a .names .now) (c .before .before .before .before .before .is-broken .ensures) (c .before .before .before .before .if1 .left) (c .before .before-context .result) (c .before .before .if2 .left) (c .before .before-context .ensures .0) (c .before .before-context .ensures .1))
 
 pub pop-spec : {M : Type 1} → statement M
 pop-spec =

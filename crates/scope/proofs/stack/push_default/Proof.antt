@@ -2,7 +2,7 @@
 use native.Mathlib.Omega.{arith}
 use Rattle.scope.specs.Calls.{pushDefault}
 use Rattle.scope.specs.Answers.{lent}
-use Rattle.scope.proofs.StackLaws.{call-broken, push-full, push-empty}
+use Rattle.scope.proofs.StackLaws.{call-broken, push-full, push-empty, push-empty-whole}
 use borrow.Author.Needs.{needs}
 use Rattle.scope.proofs.stack.push_default.Statement.{statement}
 use Rattle.scope.proofs.stack.push_default.Tie as tie
@@ -14,16 +14,16 @@ is-broken-requires : tie.Need-is-broken-requires
 is-broken-requires c κs = search needs
 
 returns : tie.Need-returns
-returns c = let a = c .before .before .args in call-broken (lent (a .s) (a .slots .now) (a .names .now)) pushDefault (c .before .is-broken .ensures) (c .if1 .taken)
+returns c = let a = c .before .before .args in (call-broken (lent (a .s) (a .slots .now) (a .names .now)) pushDefault (c .before .is-broken .ensures) (c .if1 .taken), tt)
 
 returns-2 : tie.Need-returns-2
-returns-2 c = let a = c .before .before .before .before .args in push-full (a .s) (a .slots .now) (a .names .now) (c .before .before .before .is-broken .ensures) (c .before .before .if1 .left) (omega arith)
+returns-2 c = let a = c .before .before .before .before .args in (push-full (a .s) (a .slots .now) (a .names .now) (c .before .before .before .is-broken .ensures) (c .before .before .if1 .left) (omega arith), tt)
 
 add-t6 : tie.Need-add-t6
 add-t6 c = search needs
 
 returns-3 : tie.Need-returns-3
-returns-3 c = let a = c .before .before .before .before .before .args in push-empty (a .s) (a .slots .now) (a .names .now) (c .before .before .before .before .is-broken .ensures) (c .before .before .before .if1 .left) (omega arith)
+returns-3 c = let a = c .before .before .before .before .before .args in (push-empty (a .s) (a .slots .now) (a .names .now) (c .before .before .before .before .is-broken .ensures) (c .before .before .before .if1 .left) (omega arith), push-empty-whole (a .s) (a .slots .now) (a .names .now) (c .before .before .before .before .is-broken .ensures) (c .before .before .before .if1 .left) (omega arith))
 
 pub push-default-spec : {M : Type 1} → statement M
 push-default-spec = tie.close (tie.spec is-broken-requires returns returns-2 add-t6 returns-3)

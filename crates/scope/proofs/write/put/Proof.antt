@@ -33,7 +33,7 @@ same-length-2 : tie.Need-same-length-2
 same-length-2 c = search needs
 
 returns : tie.Need-returns
-returns c = let a = c .before .before .before .args in appended-one (a .slots .now) (a .names .now) (a .at) (a .context) (a .depth) (a .kind) (a .name .now) (omega arith) (omega arith) (c .copy .ensures)
+returns c = let a = c .before .before .before .args in appended-one (a .slots .now) (a .names .now) (a .at) (a .context) (a .depth) (a .kind) (a .name .now) (omega arith) (omega arith) (omega arith) (c .copy .ensures)
 
 pub put-spec : {M : Type 1} → statement M
 put-spec =
