@@ -1,0 +1,419 @@
+// The scope calls at their limits, each trial in rows of its own.
+use crate::calls;
+use crate::say;
+use scope::parsed;
+use scope::scope::Changed;
+use scope::scope::Scope;
+use scope::stack;
+
+// The characters that lists take their names from.
+const ABC: [u32; 3] = [0x61, 0x62, 0x63];
+
+const X: [u32; 1] = [0x78];
+
+// Lists of one variable: the first, the third of the characters.
+const FIRST: [[u32; 4]; 1] = [[0, 0, 0, 1]];
+
+const THIRD: [[u32; 4]; 1] = [[0, 0, 2, 1]];
+
+// A name of 129 characters.
+const LONG: [u32; 129] = [0x61; 129];
+
+// Contexts each below the one before, depths 0 to 8.
+const DEEP: [[u32; 4]; 9] = [
+    [0, 1, 0, 1],
+    [1, 1, 0, 1],
+    [2, 1, 0, 1],
+    [3, 1, 0, 1],
+    [4, 1, 0, 1],
+    [5, 1, 0, 1],
+    [6, 1, 0, 1],
+    [7, 1, 0, 1],
+    [8, 1, 0, 1],
+];
+
+// Names of one character each, no two alike.
+fn write_cells(cells: &mut [u32; 514]) {
+    let mut i: usize = 0;
+    while i < 514 {
+        cells[i] = 0x4E00 + i as u32;
+        i += 1;
+    }
+}
+
+// A list of variables that are named by the cells in order.
+fn write_list(rows: &mut [[u32; 4]; 514]) {
+    let mut i: usize = 0;
+    while i < 514 {
+        rows[i] = [0, 0, i as u32, 1];
+        i += 1;
+    }
+}
+
+fn pushed(
+    text: &[u8],
+    slots: &mut [[u32; 4]],
+    names: &mut [[u32; 128]],
+    rows: &[[u32; 4]; 514],
+    cells: &[u32; 514],
+) -> Scope {
+    calls::pushed(text, Scope::opened(), slots, names, rows, cells)
+}
+
+// A list that is over the limit as it stands, and within it once repeats are replaced; the scope with 512 entries that it leaves.
+fn entries(slots: &mut [[u32; 4]], names: &mut [[u32; 128]]) -> Scope {
+    say::words(b"Entries\n");
+    let mut cells = [0u32; 514];
+    write_cells(&mut cells);
+    let mut rows = [[0u32; 4]; 514];
+    write_list(&mut rows);
+    pushed(b"514 entries", slots, names, &rows, &cells);
+    rows[513] = [0, 0, 1, 1];
+    pushed(
+        b"514 entries, 513 left after replacing",
+        slots,
+        names,
+        &rows,
+        &cells,
+    );
+    rows[512] = [0, 0, 0, 1];
+    pushed(
+        b"514 entries, 512 left after replacing",
+        slots,
+        names,
+        &rows,
+        &cells,
+    )
+}
+
+fn full() {
+    let mut slots = [[0u32; 4]; 768];
+    let mut names = [[0u32; 128]; 768];
+    let s = entries(&mut slots, &mut names);
+    calls::named(b"a variable of another name", s, &mut slots, &mut names, &X);
+    let t = calls::named(
+        b"a variable of a name that is there",
+        s,
+        &mut slots,
+        &mut names,
+        &[0x4E05],
+    );
+    calls::context_named(
+        b"a context of one entry and a name that is there",
+        t,
+        &mut slots,
+        &mut names,
+        &[0x4E06],
+        &FIRST,
+        &ABC,
+    );
+    let more = calls::pushed_empty(b"an empty context pushed", t, &slots, &names);
+    calls::named(b"a variable there", more, &mut slots, &mut names, &X);
+    calls::added(b"a parsed name", more, &mut slots, &mut names, &X);
+}
+
+fn all_contexts(slots: &[[u32; 4]], names: &[[u32; 128]]) -> Scope {
+    let mut s = Scope::opened();
+    let mut i: usize = 0;
+    while i < 31 {
+        s = calls::after(stack::push_default(s, slots, names), s);
+        i += 1;
+    }
+    s
+}
+
+fn contexts() {
+    say::words(b"Contexts\n");
+    let mut slots = [[0u32; 4]; 768];
+    let mut names = [[0u32; 128]; 768];
+    let s = all_contexts(&slots, &names);
+    say::answer(b"31 contexts pushed onto the first", Changed::Done(s));
+    calls::pushed_empty(b"an empty one more", s, &slots, &names);
+    calls::pushed(b"a list more", s, &mut slots, &mut names, &FIRST, &ABC);
+    calls::pushed(
+        b"a broken list more",
+        s,
+        &mut slots,
+        &mut names,
+        &DEEP,
+        &ABC,
+    );
+    let last = calls::named(b"a variable in the last", s, &mut slots, &mut names, &X);
+    let less = calls::popped(b"popped", last, &slots, &names);
+    calls::pushed(b"a list pushed", less, &mut slots, &mut names, &FIRST, &ABC);
+}
+
+// A scope with 256 parsed names, from 0x4E00 on.
+fn all_parsed(slots: &mut [[u32; 4]], names: &mut [[u32; 128]]) -> Scope {
+    let mut s = Scope::opened();
+    let mut i: usize = 0;
+    while i < 256 {
+        let name = [0x4E00 + i as u32];
+        s = calls::after(parsed::add_parsed_name(s, slots, names, &name), s);
+        i += 1;
+    }
+    s
+}
+
+fn parsed_names() {
+    say::words(b"Parsed names\n");
+    let mut slots = [[0u32; 4]; 768];
+    let mut names = [[0u32; 128]; 768];
+    let s = all_parsed(&mut slots, &mut names);
+    say::answer(b"256 parsed names", Changed::Done(s));
+    calls::added(b"one of them again", s, &mut slots, &mut names, &[0x4E64]);
+    calls::added(b"a 257th", s, &mut slots, &mut names, &[0x4F00]);
+    calls::added(b"a broken one", s, &mut slots, &mut names, &LONG);
+    let none = calls::popped(b"popped", s, &slots, &names);
+    calls::asked(b"the 256th", none, &slots, &names, &[0x4EFF]);
+    calls::asked(b"the 257th", none, &slots, &names, &[0x4F00]);
+}
+
+fn used_again() {
+    say::words(b"Rows used again\n");
+    let mut slots = [[0u32; 4]; 768];
+    let mut names = [[0u32; 128]; 768];
+    let two = [[0u32, 0, 0, 1], [0, 0, 1, 1]];
+    let s = calls::pushed(
+        b"a and b pushed",
+        Scope::opened(),
+        &mut slots,
+        &mut names,
+        &two,
+        &ABC,
+    );
+    calls::asked(b"a", s, &slots, &names, &ABC[0..1]);
+    let none = calls::popped(b"popped", s, &slots, &names);
+    calls::asked(b"a", none, &slots, &names, &ABC[0..1]);
+    let t = calls::pushed(b"c pushed", none, &mut slots, &mut names, &THIRD, &ABC);
+    calls::asked(b"a", t, &slots, &names, &ABC[0..1]);
+    calls::asked(b"b", t, &slots, &names, &ABC[1..2]);
+    calls::asked(b"c", t, &slots, &names, &ABC[2..3]);
+}
+
+fn lengths() {
+    say::words(b"Names\n");
+    let mut slots = [[0u32; 4]; 768];
+    let mut names = [[0u32; 128]; 768];
+    let s = calls::named(
+        b"an empty name",
+        Scope::opened(),
+        &mut slots,
+        &mut names,
+        &LONG[0..0],
+    );
+    calls::asked(b"the empty text", s, &slots, &names, &LONG[0..0]);
+    let t = calls::named(
+        b"a name of 128 characters",
+        s,
+        &mut slots,
+        &mut names,
+        &LONG[0..128],
+    );
+    calls::asked(b"the 128 characters", t, &slots, &names, &LONG[0..128]);
+    calls::named(
+        b"a name of 129 characters",
+        t,
+        &mut slots,
+        &mut names,
+        &LONG,
+    );
+    calls::named(b"0xD7FF", t, &mut slots, &mut names, &[0xD7FF]);
+    calls::named(b"0xD800", t, &mut slots, &mut names, &[0xD800]);
+    calls::named(b"0x10FFFF", t, &mut slots, &mut names, &[0x10FFFF]);
+    calls::named(b"0x110000", t, &mut slots, &mut names, &[0x110000]);
+}
+
+fn lists() {
+    say::words(b"Lists\n");
+    let mut slots = [[0u32; 4]; 768];
+    let mut names = [[0u32; 128]; 768];
+    let s = Scope::opened();
+    calls::pushed(
+        b"depth 1 first",
+        s,
+        &mut slots,
+        &mut names,
+        &[[1, 0, 0, 1]],
+        &ABC,
+    );
+    calls::pushed(
+        b"depth 1 below a variable",
+        s,
+        &mut slots,
+        &mut names,
+        &[[0, 0, 0, 1], [1, 0, 1, 1]],
+        &ABC,
+    );
+    calls::pushed(
+        b"depth 2 below depth 0",
+        s,
+        &mut slots,
+        &mut names,
+        &[[0, 1, 0, 1], [2, 0, 1, 1]],
+        &ABC,
+    );
+    calls::pushed(b"kind 2", s, &mut slots, &mut names, &[[0, 2, 0, 1]], &ABC);
+    calls::pushed(
+        b"a name that ends beyond the characters",
+        s,
+        &mut slots,
+        &mut names,
+        &[[0, 0, 2, 2]],
+        &ABC,
+    );
+}
+
+fn depths() {
+    say::words(b"Depths\n");
+    let mut slots = [[0u32; 4]; 768];
+    let mut names = [[0u32; 128]; 768];
+    let s = Scope::opened();
+    calls::pushed(
+        b"depths 0 to 7",
+        s,
+        &mut slots,
+        &mut names,
+        &DEEP[0..8],
+        &ABC,
+    );
+    calls::pushed(b"depths 0 to 8", s, &mut slots, &mut names, &DEEP, &ABC);
+    calls::context_named(
+        b"depths 0 to 6 below x",
+        s,
+        &mut slots,
+        &mut names,
+        &X,
+        &DEEP[0..7],
+        &ABC,
+    );
+    calls::context_named(
+        b"depths 0 to 7 below x",
+        s,
+        &mut slots,
+        &mut names,
+        &X,
+        &DEEP[0..8],
+        &ABC,
+    );
+}
+
+fn replaced() {
+    say::words(b"Context and variable of one name\n");
+    let mut slots = [[0u32; 4]; 768];
+    let mut names = [[0u32; 128]; 768];
+    let key = [0x78u32, 0x20, 0x2E, 0x20, 0x61];
+    let s = calls::context_named(
+        b"x, a context of a",
+        Scope::opened(),
+        &mut slots,
+        &mut names,
+        &X,
+        &FIRST,
+        &ABC,
+    );
+    calls::asked(b"x . a", s, &slots, &names, &key);
+    calls::asked(b"a", s, &slots, &names, &ABC[0..1]);
+    let t = calls::named(b"x, a variable", s, &mut slots, &mut names, &X);
+    calls::asked(b"x", t, &slots, &names, &X);
+    calls::asked(b"x . a", t, &slots, &names, &key);
+    calls::asked(b"a", t, &slots, &names, &ABC[0..1]);
+    let u = calls::context_named(
+        b"x, a context of a again",
+        t,
+        &mut slots,
+        &mut names,
+        &X,
+        &FIRST,
+        &ABC,
+    );
+    calls::asked(b"x . a", u, &slots, &names, &key);
+}
+
+fn empty_stack() {
+    say::words(b"Empty stack\n");
+    let mut slots = [[0u32; 4]; 768];
+    let mut names = [[0u32; 128]; 768];
+    let s = calls::popped(b"popped", Scope::opened(), &slots, &names);
+    calls::popped(b"popped again", s, &slots, &names);
+    calls::named(b"a variable", s, &mut slots, &mut names, &X);
+    calls::context_named(b"a context", s, &mut slots, &mut names, &X, &FIRST, &ABC);
+    calls::named(b"a broken name", s, &mut slots, &mut names, &LONG);
+    let t = calls::added(b"a parsed name", s, &mut slots, &mut names, &X);
+    calls::pushed(b"a list pushed", t, &mut slots, &mut names, &FIRST, &ABC);
+}
+
+fn nested() {
+    say::words(b"Nested repeats\n");
+    let mut slots = [[0u32; 4]; 768];
+    let mut names = [[0u32; 128]; 768];
+    let cells = [0x6Fu32, 0x6E, 0x76, 0x77, 0x70];
+    let again = [
+        [0u32, 1, 0, 1],
+        [1, 1, 1, 1],
+        [2, 0, 2, 1],
+        [1, 0, 3, 1],
+        [1, 0, 1, 1],
+    ];
+    let s = calls::pushed(
+        b"o with n, a context of v, then w, then n, a variable",
+        Scope::opened(),
+        &mut slots,
+        &mut names,
+        &again,
+        &cells,
+    );
+    calls::asked(b"o . n", s, &slots, &names, &[0x6F, 0x20, 0x2E, 0x20, 0x6E]);
+    calls::asked(b"v", s, &slots, &names, &cells[2..3]);
+    calls::asked(b"w", s, &slots, &names, &cells[3..4]);
+    let apart = [[0u32, 1, 0, 1], [1, 0, 1, 1], [0, 1, 4, 1], [1, 0, 1, 1]];
+    calls::pushed(
+        b"o with n, then p with n",
+        s,
+        &mut slots,
+        &mut names,
+        &apart,
+        &cells,
+    );
+}
+
+// Scopes that no call left so.
+fn lent() {
+    say::words(b"Lent scopes\n");
+    let mut slots = [[0u32; 4]; 768];
+    let names = [[0u32; 128]; 768];
+    let over = Scope {
+        contexts: 33,
+        entries: 0,
+        parsed: 0,
+    };
+    calls::popped(b"33 contexts", over, &slots, &names);
+    calls::popped(b"767 rows", Scope::opened(), &slots[0..767], &names);
+    slots[0] = [1, 0, 0, 129];
+    let used = Scope {
+        contexts: 1,
+        entries: 1,
+        parsed: 0,
+    };
+    calls::popped(b"a name length of 129", used, &slots, &names);
+    calls::popped(
+        b"the same in a row that is not in use",
+        Scope::opened(),
+        &slots,
+        &names,
+    );
+}
+
+pub fn tried() {
+    full();
+    contexts();
+    parsed_names();
+    used_again();
+    lengths();
+    lists();
+    depths();
+    replaced();
+    empty_stack();
+    nested();
+    lent();
+}
