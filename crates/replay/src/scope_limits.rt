@@ -16,8 +16,10 @@ const FIRST: [[u32; 4]; 1] = [[0, 0, 0, 1]];
 
 const THIRD: [[u32; 4]; 1] = [[0, 0, 2, 1]];
 
-// A name of 129 characters.
-const LONG: [u32; 129] = [0x61; 129];
+// Broken: no scalar value, and an entry without a parent.
+const BAD: [u32; 1] = [0xD800];
+
+const ORPHAN: [[u32; 4]; 1] = [[1, 0, 0, 1]];
 
 // Contexts each below the one before, depths 0 to 8.
 const DEEP: [[u32; 4]; 9] = [
@@ -135,7 +137,7 @@ fn contexts() {
         s,
         &mut slots,
         &mut names,
-        &DEEP,
+        &ORPHAN,
         &ABC,
     );
     let last = calls::named(b"a variable in the last", s, &mut slots, &mut names, &X);
@@ -163,7 +165,7 @@ fn parsed_names() {
     say::answer(b"256 parsed names", Changed::Done(s));
     calls::added(b"one of them again", s, &mut slots, &mut names, &[0x4E64]);
     calls::added(b"a 257th", s, &mut slots, &mut names, &[0x4F00]);
-    calls::added(b"a broken one", s, &mut slots, &mut names, &LONG);
+    calls::added(b"a broken one", s, &mut slots, &mut names, &BAD);
     let none = calls::popped(b"popped", s, &slots, &names);
     calls::asked(b"the 256th", none, &slots, &names, &[0x4EFF]);
     calls::asked(b"the 257th", none, &slots, &names, &[0x4F00]);
@@ -182,44 +184,45 @@ fn used_again() {
         &two,
         &ABC,
     );
-    calls::asked(b"a", s, &slots, &names, &ABC[0..1]);
+    calls::asked(b"a", s, &slots, &names, &[0x61]);
     let none = calls::popped(b"popped", s, &slots, &names);
-    calls::asked(b"a", none, &slots, &names, &ABC[0..1]);
+    calls::asked(b"a", none, &slots, &names, &[0x61]);
     let t = calls::pushed(b"c pushed", none, &mut slots, &mut names, &THIRD, &ABC);
-    calls::asked(b"a", t, &slots, &names, &ABC[0..1]);
-    calls::asked(b"b", t, &slots, &names, &ABC[1..2]);
-    calls::asked(b"c", t, &slots, &names, &ABC[2..3]);
+    calls::asked(b"a", t, &slots, &names, &[0x61]);
+    calls::asked(b"b", t, &slots, &names, &[0x62]);
+    calls::asked(b"c", t, &slots, &names, &[0x63]);
 }
 
 fn lengths() {
     say::words(b"Names\n");
     let mut slots = [[0u32; 4]; 768];
     let mut names = [[0u32; 128]; 768];
+    let long = [0x61u32; 129];
     let s = calls::named(
         b"an empty name",
         Scope::opened(),
         &mut slots,
         &mut names,
-        &LONG[0..0],
+        &long[0..0],
     );
-    calls::asked(b"the empty text", s, &slots, &names, &LONG[0..0]);
+    calls::asked(b"the empty text", s, &slots, &names, &long[0..0]);
     let t = calls::named(
         b"a name of 128 characters",
         s,
         &mut slots,
         &mut names,
-        &LONG[0..128],
+        &long[0..128],
     );
-    calls::asked(b"the 128 characters", t, &slots, &names, &LONG[0..128]);
+    calls::asked(b"the 128 characters", t, &slots, &names, &long[0..128]);
     calls::named(
         b"a name of 129 characters",
         t,
         &mut slots,
         &mut names,
-        &LONG,
+        &long,
     );
     calls::named(b"0xD7FF", t, &mut slots, &mut names, &[0xD7FF]);
-    calls::named(b"0xD800", t, &mut slots, &mut names, &[0xD800]);
+    calls::named(b"0xD800", t, &mut slots, &mut names, &BAD);
     calls::named(b"0x10FFFF", t, &mut slots, &mut names, &[0x10FFFF]);
     calls::named(b"0x110000", t, &mut slots, &mut names, &[0x110000]);
 }
@@ -229,14 +232,7 @@ fn lists() {
     let mut slots = [[0u32; 4]; 768];
     let mut names = [[0u32; 128]; 768];
     let s = Scope::opened();
-    calls::pushed(
-        b"depth 1 first",
-        s,
-        &mut slots,
-        &mut names,
-        &[[1, 0, 0, 1]],
-        &ABC,
-    );
+    calls::pushed(b"depth 1 first", s, &mut slots, &mut names, &ORPHAN, &ABC);
     calls::pushed(
         b"depth 1 below a variable",
         s,
@@ -313,11 +309,11 @@ fn replaced() {
         &ABC,
     );
     calls::asked(b"x . a", s, &slots, &names, &key);
-    calls::asked(b"a", s, &slots, &names, &ABC[0..1]);
+    calls::asked(b"a", s, &slots, &names, &[0x61]);
     let t = calls::named(b"x, a variable", s, &mut slots, &mut names, &X);
     calls::asked(b"x", t, &slots, &names, &X);
     calls::asked(b"x . a", t, &slots, &names, &key);
-    calls::asked(b"a", t, &slots, &names, &ABC[0..1]);
+    calls::asked(b"a", t, &slots, &names, &[0x61]);
     let u = calls::context_named(
         b"x, a context of a again",
         t,
@@ -338,7 +334,7 @@ fn empty_stack() {
     calls::popped(b"popped again", s, &slots, &names);
     calls::named(b"a variable", s, &mut slots, &mut names, &X);
     calls::context_named(b"a context", s, &mut slots, &mut names, &X, &FIRST, &ABC);
-    calls::named(b"a broken name", s, &mut slots, &mut names, &LONG);
+    calls::named(b"a broken name", s, &mut slots, &mut names, &BAD);
     let t = calls::added(b"a parsed name", s, &mut slots, &mut names, &X);
     calls::pushed(b"a list pushed", t, &mut slots, &mut names, &FIRST, &ABC);
 }

@@ -1,3 +1,4 @@
+-- The question is asked of a scope that was just found unbroken.
 use mathlib.Core.Path.{sym, _∙_}
 use borrow.Author.Needs.{needs}
 use Rattle.replay.proofs.calls.has.Statement.{statement}

@@ -1,3 +1,4 @@
+-- The loop counts to 31.
 use native.Mathlib.Omega.{arith}
 use borrow.Author.Needs.{needs}
 use Prim.Native.Nat.{_-_, _≤_}

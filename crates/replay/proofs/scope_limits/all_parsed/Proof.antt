@@ -1,3 +1,4 @@
+-- The loop counts to 256; the rows stay as many.
 use native.Mathlib.Omega.{arith}
 use borrow.Author.Needs.{needs}
 use Prim.Native.Nat.{_-_, _≤_}

@@ -1,3 +1,4 @@
+-- The index stays within the array, so no number wraps.
 use native.Mathlib.Omega.{arith}
 use Prim.Native.Nat.{_-_, _≤_}
 use Rattle.replay.proofs.scope_limits.write_cells.Statement.{statement}
