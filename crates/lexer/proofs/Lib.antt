@@ -14,3 +14,5 @@ pub mod WalkLaws
 pub mod BoundLaws
 pub mod WindowLaws
 pub mod PrefixLaws
+pub mod CutLaws
+pub mod NamingLaws

@@ -1,5 +1,5 @@
 -- A name stays in the text, takes a cell, and its value is no longer than the cells taken: two words with nothing between them would have been one.
-use mathlib.Core.Path.{_≡_, refl, sym, _∙_}
+use mathlib.Core.Path.{_≡_, refl, sym, ap, _∙_, subst}
 use mathlib.Core.Bool.{Bool, true, false, cond, _&&_, false≢true, true≢false}
 use mathlib.Core.Option.{Option, none, some}
 use mathlib.Core.List.{List, [], _∷_, map}
@@ -12,6 +12,7 @@ use lib.ListN.{length, take, length-append}
 use Rattle.reading.specs.Codes.{codes}
 use Rattle.reading.specs.Look.{cellAt}
 use Rattle.reading.specs.Cells.{holds, is}
+use Rattle.reading.specs.Goes.{Sees}
 use Rattle.reading.proofs.Test.{by-test, both, every}
 use Rattle.reading.proofs.Cell.{cell-there, cell-out}
 use Rattle.reading.proofs.Passed.{passed-more}
@@ -185,3 +186,16 @@ module _ (t : List ℕ) (k k′ : ℕ) (enough : length t < k) (enough′ : leng
       let l = cell-there isNamePart t i h in
       binds (walks t k k′ enough enough′ (suc i) k k′ true i i (omega arith, λ y _. absurd (true≢false y)) (omega arith) (omega arith) (omega arith) (omega arith))
       (λ r s. let w = s .within in asks (omega arith) (answers (cut-walked (r .0) (r .1) (omega arith) (s .begun h) w (s .parts))))
+
+-- What a walk over a name passed has a value that is no longer than the text, and so has each prefix of it.
+room-of : (lo hi n from : ℕ) (ps : List Part) → Ends lo hi true from ps → hi ≤ n → length (newName (texts ps)) ≤ n
+room-of lo hi n from [] e h = omega arith
+room-of lo hi n from (p ∷ ps) e h = let z = at-end lo hi true from p ps e in omega (arith, z .1, z .2)
+
+pub walk-room : (t : List ℕ) (k : ℕ) → length t < k → (i : ℕ) → holds isNamePart (cellAt t i) ≡ true → {ps : List Part} {end q : ℕ} → Sees {A = List Part × ℕ} t (walk k k i) (ps, end) q
+    → (0 < length ps) × ((m : ℕ) → length (newName (texts (take m ps))) ≤ length t)
+walk-room t k enough i h {ps} {end} g =
+    let l = cell-there isNamePart t i h in
+    let w = walks t k k enough enough (suc i) k k true i i (omega arith, λ y _. absurd (true≢false y)) (omega arith) (omega arith) (omega arith) (omega arith) in
+    let s = subst (Walked t k k enough enough (suc i) true i i) (ap (λ x. x .answer) (g .same)) (w .holding) in
+    (s .begun h, λ m. room-of (suc i) end (length t) i (take m ps) (ends-take (suc i) end true i m ps (s .parts)) (s .within))

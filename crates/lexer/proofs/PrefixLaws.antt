@@ -5,7 +5,7 @@ use mathlib.Core.List.{List, [], _∷_, _++_, map}
 use Prim.Native.Nat.{ℕ, zero, suc, _+_, _-_, _*_, _≤_, _<_}
 use native.Mathlib.Numerals.{add-one}
 use native.Mathlib.Omega.{arith}
-use lib.Dec.{leb, eqb}
+use lib.Dec.{leb}
 use borrow.Author.Tests.{leb-true}
 use lib.ListN.{length, take, drop, set, length-append, length-set}
 use lib.Seq.{take-append-seam}
@@ -21,6 +21,7 @@ use Rattle.names.specs.Spelling.{Left, laid, tied, spelled}
 use Rattle.names.specs.Name.{isSymbolText}
 use Rattle.names.specs.Fixed.{propertyNames, rangeProperties, dateProperties, timeProperties}
 use Rattle.names.proofs.Shorter.{trim-length}
+use Rattle.names.proofs.SameLaws.{equal-length}
 use Rattle.names.proofs.NameLaws.{spelled-by-space}
 use Rattle.scope.specs.Capped.{Capped}
 use Rattle.lexer.specs.Flags.{Flags}
@@ -151,13 +152,6 @@ module _ {f : Flags} {isName : List ℕ → Bool} {t : List ℕ} {from n m : ℕ
     searching-more e = let k = s .less in record { less = omega arith; left = q .1 ∙ s .left; same = ap length (q .1) ∙ s .same; goal = s .goal ∙ one ∙ rw e }
 
 -- A property has at most 14 cells.
-equal-length : (p x : List ℕ) → same p x ≡ true → length p ≡ length x
-unfolding same
-equal-length [] [] h = refl
-equal-length [] (b ∷ x) h = absurd (false≢true h)
-equal-length (a ∷ p) [] h = absurd (false≢true h)
-equal-length (a ∷ p) (b ∷ x) h = ap suc (equal-length p x (both (eqb a b) (same p x) h .1))
-
 short-member : (n : ℕ) (ys : List (List ℕ)) → allOf (λ y. leb (length y) n) ys ≡ true → (x : List ℕ) → member x ys ≡ true → length x ≤ n
 unfolding member
 short-member n [] h x g = absurd (false≢true g)

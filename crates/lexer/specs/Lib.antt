@@ -15,5 +15,6 @@ pub mod Pieces
 pub mod Places
 pub mod FlagsOf
 pub mod Taken
+pub mod Cut
 pub mod Fit
 pub mod Shown

@@ -4,8 +4,10 @@ use mathlib.Core.Bool.{Bool}
 use mathlib.Core.List.{List}
 use Prim.Native.Nat.{ℕ}
 use lib.ListN.{length}
+use Rattle.reading.specs.Look.{Look}
 use Rattle.reading.specs.Goes.{Sees}
 use Rattle.reading.specs.Slices.{front}
+use Rattle.lexer.specs.Read as spec
 use Rattle.lexer.specs.Read.{Read, token, refused, nothing, truth, number, chars, outcome, cellsOf}
 use Rattle.lexer.specs.Flags.{Flags}
 use Rattle.lexer.specs.FlagsOf.{flagsOf}
@@ -22,9 +24,21 @@ coded (token k (number before after minus exponent)) = Numeric (length before) (
 coded (token k (chars cs)) = Chars k (length cs)
 coded (refused n c) = Refused n c
 
--- The token that the text t begins with was read, its value written to the front of o.
-pub record Taken (t : List ℕ) (isName : List ℕ → Bool) (f : Flags) (o : List ℕ) (r : Outcome) (o′ : List ℕ) : Type 0 where
+-- The code gave this outcome, with this reach, and wrote its value to the front of o.
+pub record Gives (c : spec.Outcome) (reach : ℕ) (o : List ℕ) (r : Outcome) (o′ : List ℕ) : Type 0 where
+  pub read : r .read ≡ coded (c .read)
+  pub used : r .used ≡ c .used
+  pub flags : flagsOf (r .flags) ≡ c .flags
+  pub looked : r .reach ≡ reach
+  pub left : o′ ≡ front (cellsOf (c .read)) o
+
+-- The reading m of the text t was made, and its value written to the front of o.
+pub record Takes (t : List ℕ) (m : Look spec.Outcome) (o : List ℕ) (r : Outcome) (o′ : List ℕ) : Type 0 where
   pub read : Read
-  pub sees : Sees t (readToken isName f) (outcome read (r .used) (flagsOf (r .flags))) (r .reach)
+  pub sees : Sees t m (outcome read (r .used) (flagsOf (r .flags))) (r .reach)
   pub shown : r .read ≡ coded read
   pub left : o′ ≡ front (cellsOf read) o
+
+-- The token that the text t begins with.
+abbrev pub Taken : List ℕ → (List ℕ → Bool) → Flags → List ℕ → Outcome → List ℕ → Type 0
+Taken t isName f o r o′ = Takes t (readToken isName f) o r o′

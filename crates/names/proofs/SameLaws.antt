@@ -1,14 +1,15 @@
 -- Comparing texts at an index, and membership as a row of tests.
-use mathlib.Core.Path.{_≡_, refl, _∙_}
-use mathlib.Core.Bool.{Bool, true, false, _&&_, _||_}
+use mathlib.Core.Path.{_≡_, refl, sym, ap, _∙_}
+use mathlib.Core.Bool.{Bool, true, false, _&&_, _||_, false≢true}
 use mathlib.Core.List.{List, [], _∷_, _++_}
-use Prim.Native.Nat.{ℕ, _+_, _<_, _≤_}
+use Prim.Native.Nat.{ℕ, suc, _+_, _<_, _≤_}
 use native.Mathlib.Numerals.{add-one}
 use native.Mathlib.Omega.{arith}
 use lib.Dec.{eqb}
 use lib.ListN.{length, getD, drop, drop-of-length-le}
 use lib.Seq.{drop-cons}
-use borrow.Author.Tests.{eq-eqb, ne-eqb}
+use borrow.Author.Tests.{eq-eqb, ne-eqb, eqb-true, eqb-false}
+use Rattle.reading.proofs.Test.{both}
 use Rattle.names.specs.Same.{same, member}
 
 pub same-length : (s t : List ℕ) → (length s ≡ length t → ⊥) → same s t ≡ false
@@ -56,3 +57,25 @@ member-append x (a ∷ xs) ys = go (same a x) (member-append x xs ys)
     go : (b : Bool) → member x xs || member x ys ≡ member x (xs ++ ys) → (b || member x xs) || member x ys ≡ b || member x (xs ++ ys)
     go true e = refl
     go false e = e
+
+-- Which of two is compared with which is the same.
+pub eqb-sym : (a b : ℕ) → eqb a b ≡ eqb b a
+eqb-sym a b = go (eqb a b) refl
+  where
+    go : (t : Bool) → eqb a b ≡ t → eqb a b ≡ eqb b a
+    go true e = e ∙ sym (eq-eqb b a (sym (eqb-true a b e)))
+    go false e = e ∙ sym (ne-eqb b a (λ z. eqb-false a b e (sym z)))
+
+pub same-sym : (x y : List ℕ) → same x y ≡ same y x
+unfolding same
+same-sym [] [] = refl
+same-sym [] (b ∷ y) = refl
+same-sym (a ∷ x) [] = refl
+same-sym (a ∷ x) (b ∷ y) = rw (eqb-sym a b, same-sym x y)
+
+pub equal-length : (p x : List ℕ) → same p x ≡ true → length p ≡ length x
+unfolding same
+equal-length [] [] h = refl
+equal-length [] (b ∷ x) h = absurd (false≢true h)
+equal-length (a ∷ p) [] h = absurd (false≢true h)
+equal-length (a ∷ p) (b ∷ x) h = ap suc (equal-length p x (both (eqb a b) (same p x) h .1))

@@ -1,5 +1,5 @@
 -- No name of a scope that is not broken is longer than the longest key.
-use mathlib.Core.Path.{_≡_, refl, sym, _∙_, ap}
+use mathlib.Core.Path.{_≡_, refl, sym, _∙_}
 use mathlib.Core.Bool.{Bool, true, false, cond, _&&_, _||_, not, false≢true}
 use mathlib.Core.List.{List, [], _∷_, _++_}
 use Prim.Native.Nat.{ℕ, zero, suc, _+_, _*_, _<_, _≤_}
@@ -10,6 +10,7 @@ use borrow.Author.Tests.{ltb-false}
 use Rattle.reading.specs.Codes.{codes}
 use Rattle.reading.proofs.Test.{both, either}
 use Rattle.names.specs.Same.{same, member}
+use Rattle.names.proofs.SameLaws.{equal-length}
 use Rattle.scope.specs.Limits.{maxName, maxDepth}
 use Rattle.scope.specs.Entries.{Entry, contextKind}
 use Rattle.scope.specs.Broken.{allScalar, isBrokenName, hasParent, isBrokenEntry, anyBroken, isBrokenSet}
@@ -35,13 +36,6 @@ all-short before (e ∷ es) h = (
   short-name (e .name) (or-right (ltb maxDepth (e .depth) || ltb contextKind (e .kind) || (ltb 0 (e .depth) && not (hasParent e before))) (isBrokenName (e .name)) (or-left (isBrokenEntry e before) (anyBroken (e ∷ before) es) h)),
   all-short (e ∷ before) es (or-right (isBrokenEntry e before) (anyBroken (e ∷ before) es) h),
 )
-
-equal-length : (p x : List ℕ) → same p x ≡ true → length p ≡ length x
-unfolding same
-equal-length [] [] h = refl
-equal-length [] (b ∷ x) h = absurd (false≢true h)
-equal-length (a ∷ p) [] h = absurd (false≢true h)
-equal-length (a ∷ p) (b ∷ x) h = ap suc (equal-length p x (both (eqb a b) (same p x) h .1))
 
 -- One level, if the keys of the levels below it keep to a bound.
 module _ (f : List Entry → List (List ℕ)) (b : ℕ) (below : (es : List Entry) → Short es → (x : List ℕ) → member x (f es) ≡ true → length x + 3 ≤ 131 * b) where

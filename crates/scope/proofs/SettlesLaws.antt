@@ -5,9 +5,10 @@ use mathlib.Core.List.{List, [], _∷_, _++_, append-assoc}
 use Prim.Native.Nat.{ℕ, suc, _<_, _≤_}
 use native.Mathlib.Omega.{arith}
 use lib.Dec.{eqb, ltb, leb}
-use borrow.Author.Tests.{eq-eqb, ne-eqb, lt-leb, lt-ltb, le-ltb, eqb-true, eqb-false, ltb-false}
+use borrow.Author.Tests.{eq-eqb, ne-eqb, lt-leb, lt-ltb, le-ltb, ltb-false}
 use Rattle.reading.proofs.Test.{by-order}
 use Rattle.names.specs.Same.{same}
+use Rattle.names.proofs.SameLaws.{same-sym}
 use Rattle.scope.specs.Entries.{Entry}
 use Rattle.scope.specs.Settled.{isRepeated, settledFrom, settled}
 use Rattle.scope.specs.Broken.{anyRepeated, anyMisplaced}
@@ -16,20 +17,6 @@ use Rattle.scope.specs.Listing.{stays, cutAfter, keep}
 use Rattle.scope.specs.Naming.{staysBeside, without}
 use Rattle.scope.proofs.SearchLaws.{or-left, or-right, or-none}
 use Rattle.scope.proofs.ListLaws.{settled-parts}
-
-eqb-sym : (a b : ℕ) → eqb a b ≡ eqb b a
-eqb-sym a b = go (eqb a b) refl
-  where
-    go : (t : Bool) → eqb a b ≡ t → eqb a b ≡ eqb b a
-    go true e = e ∙ sym (eq-eqb b a (sym (eqb-true a b e)))
-    go false e = e ∙ sym (ne-eqb b a (λ z. eqb-false a b e (sym z)))
-
-pub same-sym : (x y : List ℕ) → same x y ≡ same y x
-unfolding same
-same-sym [] [] = refl
-same-sym [] (b ∷ y) = refl
-same-sym (a ∷ x) [] = refl
-same-sym (a ∷ x) (b ∷ y) = rw (eqb-sym a b, same-sym x y)
 
 -- All are of one context; all are of it and deeper than 0.
 abbrev pub AllIn : ℕ → List Entry → Type 0

@@ -16,7 +16,8 @@ use Rattle.scope.specs.Broken.{isBrokenName, hasParent, isBrokenEntry, a
 use Rattle.scope.specs.Calls.{Changed, changed, refused, under, top, limited, push, pop, added, entry, deeper, setEntryName, setContext, addParsedName}
 use Rattle.scope.specs.Lent.{listed, anyOutside, pushList, setContextList}
 use Rattle.scope.proofs.SearchLaws.{or-left, or-right}
-use Rattle.scope.proofs.SettlesLaws.{AllIn, same-sym, top-in}
+use Rattle.names.proofs.SameLaws.{same-sym}
+use Rattle.scope.proofs.SettlesLaws.{AllIn, top-in}
 use Rattle.scope.proofs.DeeperLaws.{listed-in}
 
 -- All are of contexts below n.
