@@ -16,3 +16,5 @@ pub mod WindowLaws
 pub mod PrefixLaws
 pub mod CutLaws
 pub mod NamingLaws
+pub mod KeywordLaws
+pub mod TokenLaws

@@ -134,7 +134,7 @@ module _ {t : List ℕ} {i n end : ℕ} (c : Counted t i n end) (f : Flags) (isN
   name-sees : Sees t (readName fuel f isName i) (cutName f isName i (prefix t n i) (cellAt t end) end) (end + 1)
   name-sees = finds (asks (takes (c .sees) _ (begins t 0 (readName fuel f isName i)) (end + 1) (omega arith)) (end + 1) (omega arith))
 
-  takes-name : {o o′ : List ℕ} {r : Outcome} → Gives (cutName f isName i (prefix t n i) (cellAt t end) end) (end + 1) o r o′ → Takes t (readName fuel f isName i) o r o′
+  takes-name : {o o′ : List ℕ} {r : Outcome} → Gives (cutName f isName i (prefix t n i) (cellAt t end) end) (end + 1) o r o′ → Takes t 0 (readName fuel f isName i) o r o′
   takes-name {o} {o′} {r} g = record {
     read = cutName f isName i (prefix t n i) (cellAt t end) end .read;
     sees = rw (g .used, g .flags, g .looked) name-sees;
@@ -143,10 +143,10 @@ module _ {t : List ℕ} {i n end : ℕ} (c : Counted t i n end) (f : Flags) (isN
   }
 
   module _ (l : 0 < n) {b : Bool} (p : b ≡ startsWith (codes "item") (prefix t 1 i)) {o o′ : List ℕ} {r : Outcome} where
-    pub item-there : b ≡ true → Gives (outcome (token TokenType.Name (nameOf (prefix t 1 i))) (endOf (prefix t 1 i)) f) (end + 1) o r o′ → Takes t (readName fuel f isName i) o r o′
+    pub item-there : b ≡ true → Gives (outcome (token TokenType.Name (nameOf (prefix t 1 i))) (endOf (prefix t 1 i)) f) (end + 1) o r o′ → Takes t 0 (readName fuel f isName i) o r o′
     item-there e g = takes-name (gives-as (rw (starts-one t (codes "item") n i l ∙ sym p ∙ e, prefix-take t 1 n i (omega arith))) g)
 
-    pub item-not : b ≡ false → Gives (cutInOf f isName t i n end) (end + 1) o r o′ → Takes t (readName fuel f isName i) o r o′
+    pub item-not : b ≡ false → Gives (cutInOf f isName t i n end) (end + 1) o r o′ → Takes t 0 (readName fuel f isName i) o r o′
     item-not e g = takes-name (gives-as (rw (starts-one t (codes "item") n i l ∙ sym p ∙ e)) g)
 
 -- Room for the value of each prefix.

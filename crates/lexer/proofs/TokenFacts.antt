@@ -32,7 +32,7 @@ use Rattle.lexer.proofs.StringFacts.{strings}
 use Rattle.lexer.proofs.NameFacts.{names-read}
 
 -- What is shown passes a test that a space does not pass: then so does the cell.
-shown-holds : (p : ℕ → Bool) (c : Option ℕ) → p 0x20 ≡ false → p (shown c) ≡ true → holds p c ≡ true
+pub shown-holds : (p : ℕ → Bool) (c : Option ℕ) → p 0x20 ≡ false → p (shown c) ≡ true → holds p c ≡ true
 shown-holds p none e h = absurd (false≢true (sym e ∙ h))
 shown-holds p (some c) e h = by-test (λ z. p z ≡ true → p c ≡ true) (isWhitespace c) (λ _ h. absurd (false≢true (sym e ∙ h))) (λ _ h. h) h
 

@@ -14,6 +14,7 @@ pub mod Numerals
 pub mod Pieces
 pub mod Places
 pub mod FlagsOf
+pub mod Keywords
 pub mod Taken
 pub mod Cut
 pub mod Fit

@@ -5,7 +5,7 @@ use mathlib.Core.List.{List}
 use Prim.Native.Nat.{ℕ}
 use lib.ListN.{length}
 use Rattle.reading.specs.Look.{Look}
-use Rattle.reading.specs.Goes.{Sees}
+use Rattle.reading.specs.Goes.{Goes}
 use Rattle.reading.specs.Slices.{front}
 use Rattle.lexer.specs.Read as spec
 use Rattle.lexer.specs.Read.{Read, token, refused, nothing, truth, number, chars, outcome, cellsOf}
@@ -32,13 +32,13 @@ pub record Gives (c : spec.Outcome) (reach : ℕ) (o : List ℕ) (r : Outcome) (
   pub looked : r .reach ≡ reach
   pub left : o′ ≡ front (cellsOf (c .read)) o
 
--- The reading m of the text t was made, and its value written to the front of o.
-pub record Takes (t : List ℕ) (m : Look spec.Outcome) (o : List ℕ) (r : Outcome) (o′ : List ℕ) : Type 0 where
+-- With q as the reach so far, the reading m of the text t was made, and its value written to the front of o.
+pub record Takes (t : List ℕ) (q : ℕ) (m : Look spec.Outcome) (o : List ℕ) (r : Outcome) (o′ : List ℕ) : Type 0 where
   pub read : Read
-  pub sees : Sees t m (outcome read (r .used) (flagsOf (r .flags))) (r .reach)
+  pub sees : Goes t q m (outcome read (r .used) (flagsOf (r .flags))) (r .reach)
   pub shown : r .read ≡ coded read
   pub left : o′ ≡ front (cellsOf read) o
 
 -- The token that the text t begins with.
 abbrev pub Taken : List ℕ → (List ℕ → Bool) → Flags → List ℕ → Outcome → List ℕ → Type 0
-Taken t isName f o r o′ = Takes t (readToken isName f) o r o′
+Taken t isName f o r o′ = Takes t 0 (readToken isName f) o r o′

@@ -34,13 +34,16 @@ module _ (fuel : ℕ) (f : Flags) (isName : List ℕ → Bool) (w : List ℕ) (i
       (done (outcome (token TokenType.YyEof nothing) i f))
       (done (outcome (token TokenType.YyUndef nothing) i f))))
 
-  -- 01: the window's cases are tried in the source's order; the quote alone stands before the symbols, none of which it is.
-  abbrev pub cases : Look Outcome
-  cases =
-      firstOf fuel words f w i
-      (cond (eqb 0x2E (getD w 0 0) && isDigit (getD w 1 0)) (withFlags f (readNumber fuel i))
+  -- The quote alone stands before the symbols, none of which it is.
+  abbrev pub behindWords : Look Outcome
+  behindWords =
+      cond (eqb 0x2E (getD w 0 0) && isDigit (getD w 1 0)) (withFlags f (readNumber fuel i))
       (cond (eqb 0x22 (getD w 0 0)) (withFlags f (readString fuel [] (i + 1)))
-      (firstOf fuel symbols f w i otherCases)))
+      (firstOf fuel symbols f w i otherCases))
+
+  -- 01: the window's cases are tried in the source's order.
+  abbrev pub cases : Look Outcome
+  cases = firstOf fuel words f w i behindWords
 
 -- 01: every token but the start token clears `unary_tests`, and so do 3 to 8.
 unfoldable pub tokenWith : ℕ → (List ℕ → Bool) → Flags → Look Outcome

@@ -10,5 +10,6 @@ pub mod token_type; // token_type.rt: the numbers of the token types
 pub mod flags; // flags.rt: the state's five flags
 pub mod token; // token.rt: what a token call reads
 pub mod prefix; // prefix.rt: the longest prefix of a name that is found
+pub mod keywords; // keywords.rt: words and symbols
 pub mod name; // name.rt: which of the parts are one name
 pub mod window; // window.rt: twelve characters ahead

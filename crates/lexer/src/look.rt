@@ -1,6 +1,6 @@
 // Looks at one cell: whether it is there and of a class.
 ghost use mathlib.Core.Path.{_≡_};
-ghost use Prim.Native.Nat.{_≤_};
+ghost use Prim.Native.Nat.{_≤_, max};
 ghost use lib.ListN.{length};
 ghost use Rattle.reading.specs.Look.{cellAt};
 ghost use Rattle.reading.specs.Cells.{holds, is};
@@ -86,4 +86,14 @@ pub fn word(rest: &[u32], i: usize) -> usize
         j += 1;
     }
     j
+}
+
+// The larger of two reaches.
+pub fn larger(a: usize, b: usize) -> usize
+    ensures { λ r. ⌜ r ≡ max a b ⌝ }
+{
+    if a <= b {
+        return b;
+    }
+    a
 }

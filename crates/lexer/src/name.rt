@@ -328,7 +328,7 @@ pub fn read_name(
 ) -> Outcome
     requires { ⌜ (length (now rest) ≤ maxChars) × (holds isNamePart (cellAt (now rest) i) ≡ true) × (length (now rest) ≤ length (now out)) × (2 * length (now rest) ≤ length (now scratch)) × (isBroken (lent s (now slots) (now names)) ≡ false) × Clear (now scratch)
         × Capped (isName (scopeOf (lent s (now slots) (now names)))) cap ⌝ }
-    ensures { λ r. ⌜ Takes (now (rest .entry)) (spec.readName fuel (flagsOf flags) (isName (scopeOf (lent s (now (slots .entry)) (now (names .entry))))) i) (now (out .entry)) r (now (out .exit))
+    ensures { λ r. ⌜ Takes (now (rest .entry)) 0 (spec.readName fuel (flagsOf flags) (isName (scopeOf (lent s (now (slots .entry)) (now (names .entry))))) i) (now (out .entry)) r (now (out .exit))
         × (now (scratch .exit) ≡ now (scratch .entry)) ⌝ }
 {
     let w = crate::parts::count_parts(rest, i);

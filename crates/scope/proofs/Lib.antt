@@ -9,6 +9,7 @@ pub mod SoundLaws
 pub mod TextLaws
 pub mod KeyLaws
 pub mod LongestLaws
+pub mod WidthLaws
 pub mod WrittenLaws
 pub mod StackLaws
 pub mod AddLaws

@@ -7,6 +7,7 @@ pub mod Broken
 pub mod Calls
 pub mod Lent
 pub mod Rows
+pub mod Longest
 pub mod Answers
 pub mod Rests
 pub mod Written

@@ -1,0 +1,86 @@
+// A length that no name of a scope exceeds, so that a search need not try longer texts.
+ghost use mathlib.Core.Path.{_≡_};
+ghost use mathlib.Core.Bool.{false};
+ghost use Prim.Native.Nat.{_+_, _≤_, _<_, max};
+ghost use lib.ListN.{length, drop};
+ghost use Rattle.scope.specs.Limits.{maxEntries, maxParsed, maxName, maxDepth};
+ghost use Rattle.scope.specs.Keys.{isName, longestKey};
+ghost use Rattle.scope.specs.Capped.{Capped};
+ghost use Rattle.scope.specs.Longest as spec;
+ghost use Rattle.scope.specs.Lent.{anyTooLong, isBroken, scopeOf};
+ghost use Rattle.scope.specs.Answers.{lent};
+use crate::compare;
+use crate::scope::Scope;
+
+fn larger(a: usize, b: usize) -> usize
+    ensures { λ r. ⌜ r ≡ max a b ⌝ }
+{
+    if a < b {
+        return b;
+    }
+    a
+}
+
+// What the name in slot i adds to a key: its cells and those of " . ". Nothing if it stands at another depth than d.
+fn width(slots: &[[u32; 4]], count: usize, i: usize, d: u32) -> usize
+    requires { ⌜ (i < count) × (count ≤ length (now slots)) × (anyTooLong count (now slots) ≡ false) ⌝ }
+    ensures { λ r. ⌜ (r ≡ spec.width (now (slots .entry)) d i) × (r ≤ maxName + 3) ⌝ }
+{
+    if slots[i][1] != d {
+        return 0;
+    }
+    compare::wide(slots[i][3]) + 3
+}
+
+// The most that a name at depth d adds.
+fn widest(slots: &[[u32; 4]], count: usize, d: u32) -> usize
+    requires { ⌜ (count ≤ length (now slots)) × (anyTooLong count (now slots) ≡ false) ⌝ }
+    ensures { λ r. ⌜ (r ≡ spec.widest (now (slots .entry)) count d) × (r ≤ maxName + 3) ⌝ }
+{
+    let mut most: usize = 0;
+    let mut i: usize = 0;
+    while i < count {
+        most = larger(most, width(slots, count, i, d));
+        i += 1;
+    }
+    most
+}
+
+// The most that names of all depths add, one of each; summed from the deepest up.
+fn total(slots: &[[u32; 4]], count: usize) -> usize
+    requires { ⌜ (count ≤ length (now slots)) × (anyTooLong count (now slots) ≡ false) ⌝ }
+    ensures { λ r. ⌜ (r ≡ spec.total (spec.widest (now (slots .entry)) count) (maxDepth + 1) 0) × (r ≤ longestKey + 3) ⌝ }
+{
+    let mut sum: usize = 0;
+    let mut d: u32 = Scope::MAX_DEPTH + 1;
+    while 0 < d {
+        d -= 1;
+        sum += widest(slots, count, d);
+    }
+    sum
+}
+
+fn longest_parsed(slots: &[[u32; 4]], parsed: usize) -> usize
+    requires { ⌜ (parsed ≤ maxParsed) × (maxEntries + parsed ≤ length (now slots)) × (anyTooLong parsed (drop maxEntries (now slots)) ≡ false) ⌝ }
+    ensures { λ r. ⌜ (r ≡ spec.longestParsed (now (slots .entry)) parsed) × (r ≤ maxName) ⌝ }
+{
+    let mut most: usize = 0;
+    let mut i: usize = 0;
+    while i < parsed {
+        most = larger(most, compare::wide(slots[Scope::MAX_ENTRIES + i][3]));
+        i += 1;
+    }
+    most
+}
+
+// A length that no parsed name and no flattened key of a scope that is not broken exceeds.
+// It is the longest parsed name, or the longest names of all depths one behind the other: 0 without names, 1 where all are single characters at depth 0.
+// Ruled out, among others: the " . " between two names not counted; a parsed name longer than every key left out.
+pub fn longest_key(s: Scope, slots: &[[u32; 4]], names: &[[u32; 128]]) -> usize
+    requires { ⌜ isBroken (lent s (now slots) (now names)) ≡ false ⌝ }
+    ensures { λ r. ⌜ Capped (isName (scopeOf (lent s (now (slots .entry)) (now (names .entry))))) r ⌝ }
+{
+    let keys = total(slots, s.entries);
+    let parsed = longest_parsed(slots, s.parsed);
+    larger(keys, parsed + 3) - 3
+}
