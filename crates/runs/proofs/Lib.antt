@@ -7,3 +7,7 @@ pub mod ThreeParts
 pub mod Edits
 pub mod RunCases
 pub mod AnswerCases
+pub mod CodedLaws
+pub mod CallLaws
+pub mod RanLaws
+pub mod RunCallLaws

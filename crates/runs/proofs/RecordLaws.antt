@@ -64,6 +64,10 @@ module _ (behind : List ℕ) where
   pub unpacked : (is : List Item) → unpack (record { rows = rowsFrom 0 is; store = storeOf is ++ behind }) ≡ is
   unpacked is = items-back [] is
 
+pub row-count : (at : ℕ) (is : List Item) → length (rowsFrom at is) ≡ length is
+row-count at [] = refl
+row-count at (i ∷ is) = ap suc (row-count _ is)
+
 -- The other way round: a row of an accepted record is written again as it was read.
 bit-again : (n : ℕ) → n ≤ 1 → bit (eqb n 1) ≡ n
 bit-again n h = eqb-true _ _ (below (λ n. eqb (bit (eqb n 1)) n) 2 refl n (omega arith))

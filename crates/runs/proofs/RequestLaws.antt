@@ -18,6 +18,7 @@ use Rattle.runs.specs.Item.{Item, item, bit, endsRun}
 use Rattle.runs.specs.Run.{Reader, seen, itemAt, items, startItem, runItems}
 use Rattle.runs.specs.Record.{flagBits, rowOf, rowsFrom, storeOf}
 use Rattle.runs.specs.Request.{hasKind, rowFits, rowsFit, recordFits}
+use Rattle.runs.proofs.RecordLaws.{row-count}
 use Rattle.runs.proofs.RunLaws.{Runs, last, more, IsSound, complete, item-count}
 
 and : {b c : Bool} → b ≡ true → c ≡ true → b && c ≡ true
@@ -90,10 +91,6 @@ module _ (tok : Reader) (sound : IsSound tok) (t : List ℕ) (limit : length t �
       let z = length-append (i .value) (storeOf is) in
       and (item-fits p f m at l (omega arith)) (rw (refused-back i, h)
       (and (lt-ltb p (i .position) (omega arith)) (items-fit m (at + length (i .value)) r (omega arith) (omega arith))))
-
-  row-count : (at : ℕ) (is : List Item) → length (rowsFrom at is) ≡ length is
-  row-count at [] = refl
-  row-count at (i ∷ is) = ap suc (row-count _ is)
 
   start-form : (k : ℕ) → hasForm (startRead k) ≡ true
   start-form k = by-test (λ n. hasForm (token n nothing) ≡ true) (isOneOf startTypes k) (λ h. every (λ n. hasForm (token n nothing)) startTypes k refl h) (λ _. refl)

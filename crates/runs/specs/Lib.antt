@@ -6,3 +6,5 @@ pub mod Record
 pub mod Request
 pub mod Calls
 pub mod Print
+pub mod Coded
+pub mod Ran

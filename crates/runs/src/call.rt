@@ -1,0 +1,57 @@
+// What run and repair answer, and what both check first.
+ghost use mathlib.Core.Path.{_≡_};
+ghost use lib.ListN.{length};
+ghost use Rattle.reading.specs.Slices.{zeros};
+ghost use Rattle.scope.specs.Answers.{lent};
+ghost use Rattle.runs.specs.Ran as ran;
+use scope::scope::Scope;
+
+// A record's number of rows and of value cells, or the number of a refusal.
+pub enum Made {
+    Record(usize, usize),
+    Refused(u32),
+}
+
+// The most characters of a text.
+const MAX_CHARS: usize = 16_384;
+
+// Sets all of scratch to 0.
+pub fn clear(scratch: &mut [u32])
+    ensures { λ _. ⌜ now (scratch .exit) ≡ zeros (length (now (scratch .entry))) ⌝ }
+{
+    let mut i: usize = 0;
+    while i < scratch.len() {
+        scratch[i] = 0;
+        i += 1;
+    }
+}
+
+// The refusal of a text of n characters where so many rows, store cells and scratch cells are lent; 0 is none.
+pub fn refusal(
+    n: usize,
+    s: Scope,
+    slots: &[[u32; 4]],
+    names: &[[u32; 128]],
+    rows: usize,
+    store: usize,
+    scratch: usize,
+) -> u32
+    ensures { λ r. ⌜ r ≡ ran.refusal (lent s (now (slots .entry)) (now (names .entry))) n rows store scratch ⌝ }
+{
+    if MAX_CHARS < n {
+        return 1;
+    }
+    if scope::broken::is_broken(s, slots, names) {
+        return 10;
+    }
+    if rows < n + 2 {
+        return 9;
+    }
+    if store < n {
+        return 9;
+    }
+    if scratch < 2 * n {
+        return 9;
+    }
+    0
+}
