@@ -122,12 +122,8 @@ module _ (isName : List ℕ → Bool) (t : List ℕ) (p : ℕ) (f : spec.Flags) 
       let e : cellCount (r .read) ≡ length (cellsOf (w .read)) = ap cellCount (w .shown) ∙ cell-count (w .read) in
       record { used = omega (arith, s .inText); far = omega (arith, s .near); cells = omega (arith, s .short) }
 
-  module _ {c : Coded} (e : c ≡ itemFrom (r .read) (p + r .used) (r .flags) (p + r .reach)) where
-    pub found-small : Small c
-    found-small = let g = found in small-of (p + r .used) (r .flags) (p + r .reach) (r .read) e (omega (arith, g .used)) (omega (arith, g .far)) (omega (arith, g .cells, g .used))
-
-    pub found-size : c .length ≤ r .used
-    found-size = omega (arith, size-of (p + r .used) (r .flags) (p + r .reach) (r .read) e, found .cells)
+  pub found-small : {c : Coded} → c ≡ itemFrom (r .read) (p + r .used) (r .flags) (p + r .reach) → Small c
+  found-small e = let g = found in small-of (p + r .used) (r .flags) (p + r .reach) (r .read) e (omega (arith, g .used)) (omega (arith, g .far)) (omega (arith, g .cells, g .used))
 
 -- A slice whose rest was lent and came back.
 lent-back : (s v : List ℕ) (u : ℕ) {y : List ℕ} → y ≡ front v (take (length s - u) (drop u s)) → putMid u (length s - u) s y ≡ take u s ++ front v (drop u s)

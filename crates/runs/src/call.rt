@@ -5,15 +5,13 @@ ghost use Rattle.reading.specs.Slices.{zeros};
 ghost use Rattle.scope.specs.Answers.{lent};
 ghost use Rattle.runs.specs.Ran as ran;
 use scope::scope::Scope;
+use text::utf8::Text;
 
 // A record's number of rows and of value cells, or the number of a refusal.
 pub enum Made {
     Record(usize, usize),
     Refused(u32),
 }
-
-// The most characters of a text.
-const MAX_CHARS: usize = 16_384;
 
 // Sets all of scratch to 0.
 pub fn clear(scratch: &mut [u32])
@@ -27,6 +25,7 @@ pub fn clear(scratch: &mut [u32])
 }
 
 // The refusal of a text of n characters where so many rows, store cells and scratch cells are lent; 0 is none.
+// Ruled out, among others: a short slice told before a broken scope; a record as long as the text, with no row for the start item.
 pub fn refusal(
     n: usize,
     s: Scope,
@@ -38,7 +37,7 @@ pub fn refusal(
 ) -> u32
     ensures { λ r. ⌜ r ≡ ran.refusal (lent s (now (slots .entry)) (now (names .entry))) n rows store scratch ⌝ }
 {
-    if MAX_CHARS < n {
+    if Text::MAX_CHARS < n {
         return 1;
     }
     if scope::broken::is_broken(s, slots, names) {

@@ -220,6 +220,7 @@ fn row_of(item: Item, start: usize) -> [u32; 11]
 }
 
 // Writes the row of an item, whose value starts at `start`, to the place `at`.
+// Ruled out, among others: a number cut off at 32 bits; a row that keeps what an earlier run wrote where this item has nothing.
 pub fn put_row(rows: &mut [[u32; 11]], at: usize, item: Item, start: usize)
     requires { ⌜ (at < length (now rows)) × Small item × (start ≤ maxChars) ⌝ }
     ensures { λ _. ⌜ now (rows .exit) ≡ set (now (rows .entry)) at (rowFrom start item) ⌝ }

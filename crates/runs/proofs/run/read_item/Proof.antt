@@ -1,5 +1,5 @@
 -- The facts of a reading bound its numbers, and the token that was read is the next item.
-use Rattle.runs.proofs.RanLaws.{found, found-small, found-size, next-is, next-long}
+use Rattle.runs.proofs.RanLaws.{found, found-small, next-is, next-long}
 use native.Mathlib.Omega.{arith}
 use borrow.Author.Needs.{needs}
 use Rattle.runs.proofs.run.read_item.Statement.{statement}
@@ -77,9 +77,8 @@ add-t19 c = let k = c .before .before .before .before .before .before .before .b
 add-t24 : tie.Need-add-t24
 add-t24 c =
     let k = c .before .before .before .before .before .before .before .before .before .before .before .before .before .before .before .before .before .before .before .before .before .before in
-    let g = found _ (k .args .text .now) (k .args .at .position) _ (c .before .before .before .before .before .before .before .before .before .before .before .before .before .before .before .read-token .ensures .0) (k .pre .0) (k .pre .3) in
-    let m = found-size _ (k .args .text .now) (k .args .at .position) _ (c .before .before .before .before .before .before .before .before .before .before .before .before .before .before .before .read-token .ensures .0) (k .pre .0) (k .pre .3) (c .before .before .before .before .before .before .before .new .ensures) in
-    omega (arith, m, g .used, k .pre .0, k .pre .4)
+    let m = found-small _ (k .args .text .now) (k .args .at .position) _ (c .before .before .before .before .before .before .before .before .before .before .before .before .before .before .before .read-token .ensures .0) (k .pre .0) (k .pre .3) (c .before .before .before .before .before .before .before .new .ensures) in
+    omega (arith, m .size, m .parts, k .pre .0, k .pre .3, k .pre .4)
 
 same-length : tie.Need-same-length
 same-length c = search needs

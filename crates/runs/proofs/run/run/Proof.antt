@@ -24,7 +24,7 @@ same-length c = search needs
 returns : tie.Need-returns
 returns c =
     let a = c .before .before .before .before .before .before .before .before .before .args in
-    run-refused _ (a .start-type) _ (a .text .now) (a .rows .now) (a .store .now) (a .scratch .now) (c .before .before .before .before .clear .ensures) (c .before .refusal .ensures) (c .if1 .taken)
+    run-refused _ (a .start-type) _ (a .text .now) (a .rows .now) (a .store .now) (a .scratch .now) (c .before .before .before .before .clear .ensures) (c .before .refusal .ensures) (omega arith)
 
 read-items-requires : tie.Need-read-items-requires
 read-items-requires c κs =
