@@ -51,7 +51,7 @@ pub record Next (tok : Reader) (t : List ℕ) (at : Progress) (rows : List (List
   pub within : item .position ≤ length t
   pub onward : endsRun item ≡ false → at .position + 1 ≤ item .position
 
--- A run stands at `at`: so many of its items are packed in the fronts of the slices.
+-- A run stands at `at`: its items so far are packed in the fronts of the slices, and those from there on are still to come.
 pub record Stands (tok : Reader) (k : ℕ) (f : Flags) (t : List ℕ) (rows : List (List ℕ)) (store : List ℕ) (at : Progress) (rows′ : List (List ℕ)) (store′ : List ℕ) : Type 0 where
   pub sofar : List Item
   pub all : sofar ++ cond (at .ended) [] (items tok (length t + 2 - at .items) t (at .position) (flagsOf (at .flags))) ≡ runItems tok k f t

@@ -1,6 +1,5 @@
 // An item of a run, and its row of eleven numbers.
 ghost use mathlib.Core.Path.{_≡_};
-ghost use mathlib.Core.Bool.{true};
 ghost use Prim.Native.Nat.{_≤_, _<_};
 ghost use lib.ListN.{length, set};
 ghost use Rattle.text.specs.Limits.{maxChars};
@@ -26,8 +25,8 @@ pub struct Item {
     pub extra: u32,
 }
 
-// The places in a row.
 impl Item {
+    // The places in a row.
     pub const REFUSED: usize = 0;
 
     pub const NUMBER: usize = 1;
@@ -50,7 +49,7 @@ impl Item {
 
     pub const EXTRA: usize = 10;
 
-    // The item of a reading, placed.
+    // The item of a reading, with the position, flags and reach behind it.
     pub fn new(read: Read, position: usize, flags: Flags, reach: usize) -> Item
         requires { ⌜ cellCount read ≤ maxChars ⌝ }
         ensures { λ r. ⌜ r ≡ itemFrom read position flags reach ⌝ }
@@ -107,7 +106,7 @@ impl Item {
 // The numbers of the types that are known by their value or that end a run.
 const YY_EOF: u32 = 0;
 
-const YY_ERROR: u32 = 256;
+pub const YY_ERROR: u32 = 256;
 
 const YY_UNDEF: u32 = 257;
 

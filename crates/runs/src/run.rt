@@ -35,15 +35,15 @@ pub struct Progress {
     pub ended: bool,
 }
 
-// The start item's type: the nine are 258 to 266.
+// The start item's type; the nine are 258 to 266, and any other gives YyError.
 fn start_number(k: u32) -> u32
     ensures { λ r. ⌜ r ≡ cond (isOneOf startTypes k) k TokenType.YyError ⌝ }
 {
     if k < 258 {
-        return 256;
+        return item::YY_ERROR;
     }
     if 266 < k {
-        return 256;
+        return item::YY_ERROR;
     }
     k
 }
