@@ -2,5 +2,4 @@
 
 pub mod item; // item.rt: an item as a row of eleven numbers
 pub mod call; // call.rt: what a call answers, and what it checks first
-pub mod stub; // stub.rt: stands for the token reader until it lands
 pub mod run; // run.rt: a run over a text

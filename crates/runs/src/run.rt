@@ -21,7 +21,6 @@ use crate::call;
 use crate::call::Made;
 use crate::item;
 use crate::item::Item;
-use crate::stub;
 use lexer::flags::Flags;
 use lexer::token::Read;
 use scope::scope::Scope;
@@ -86,7 +85,7 @@ fn read_item(
 {
     let p = at.position;
     let u = at.cells;
-    let o = stub::read_token(
+    let o = lexer::token::read_token(
         &text[p..],
         at.flags,
         s,
@@ -127,7 +126,7 @@ fn read_items(
     ensures { λ r. ⌜ Stands (readToken (isName (scopeOf (lent s (now (slots .entry)) (now (names .entry)))))) «start_type» (flagsOf flags) (now (text .entry)) (now (rows .entry)) (now (store .entry)) r (now (rows .exit)) (now (store .exit))
         × (r .ended ≡ true) × (now (scratch .exit) ≡ now (scratch .entry)) ⌝ }
 {
-    let cap = stub::longest_key(s, slots, names);
+    let cap = scope::longest::longest_key(s, slots, names);
     let mut at = put_start(start_type, flags, rows);
     while !at.ended {
         at = read_item(text, at, s, slots, names, cap, rows, store, scratch);
