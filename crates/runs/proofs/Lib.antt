@@ -2,6 +2,10 @@ pub mod RunLaws
 pub mod RepairLaws
 pub mod RecordLaws
 pub mod RequestLaws
+pub mod KeptLaws
+pub mod RequestCodeLaws
+pub mod FittingLaws
+pub mod PointerLaws
 pub mod Demand3
 pub mod ThreeParts
 pub mod Edits

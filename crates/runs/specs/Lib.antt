@@ -4,6 +4,7 @@ pub mod Edit
 pub mod Repair
 pub mod Record
 pub mod Request
+pub mod Asking
 pub mod Calls
 pub mod Print
 pub mod Coded

@@ -3,3 +3,6 @@
 pub mod item; // item.rt: an item as a row of eleven numbers
 pub mod call; // call.rt: what a call answers, and what it checks first
 pub mod run; // run.rt: a run over a text
+pub mod cell; // cell.rt: a cell of a row
+pub mod kept; // kept.rt: the items that an edit leaves as they were
+pub mod request; // request.rt: whether a repair request is broken

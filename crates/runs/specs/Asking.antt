@@ -1,0 +1,35 @@
+-- A repair request as it is lent, and how many items an edit leaves as they were.
+use mathlib.Core.Bool.{cond}
+use mathlib.Core.List.{List, [], _∷_}
+use Prim.Native.Nat.{ℕ, suc, _<_, _≤_}
+use mathlib.Core.Path.{_≡_}
+use lib.ListN.{length}
+use Rattle.runs.specs.Item.{Item}
+use Rattle.runs.specs.Edit.{Edit}
+use Rattle.runs.specs.Repair.{isKept, lastKept}
+use Rattle.runs.specs.Record.{unpack}
+use Rattle.runs.specs.Request.{Request}
+
+-- The request of an old length, rows and store, an edit and a text part.
+abbrev pub asked : ℕ → List (List ℕ) → List ℕ → ℕ → ℕ → ℕ → List ℕ → Request
+asked n rows store from to size part = record {
+  oldLength = n;
+  old = record { rows = rows; store = store };
+  edit = record { from = from; to = to; size = size };
+  part = part;
+}
+
+-- The number of items before the first that is not kept.
+unfoldable pub keptCount : Edit → List Item → ℕ
+keptCount e [] = 0
+keptCount e (i ∷ is) = cond (isKept e i) (suc (keptCount e is)) 0
+
+-- So many rows are kept by an edit from `from` on, whatever the store.
+pub record KeptRows (from : ℕ) (rows : List (List ℕ)) (k : ℕ) : Type 0 where
+  pub within : k ≤ length rows
+  pub count : (e : Edit) (store : List ℕ) → e .from ≡ from → k ≡ keptCount e (unpack (record { rows = rows; store = store }))
+
+-- The position that the text part of such an edit begins at; a row's numbers are below 2^32.
+pub record PartStart (from : ℕ) (rows : List (List ℕ)) (p : ℕ) : Type 0 where
+  pub small : p < 4_294_967_296
+  pub last : (e : Edit) (store : List ℕ) → e .from ≡ from → p ≡ lastKept e (unpack (record { rows = rows; store = store })) 0
