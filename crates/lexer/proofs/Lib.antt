@@ -18,3 +18,4 @@ pub mod CutLaws
 pub mod NamingLaws
 pub mod KeywordLaws
 pub mod TokenLaws
+pub mod LexerLaws

@@ -32,7 +32,7 @@ use Rattle.lexer.specs.Places.{nextOf, leads, endOf, Placed, prefix, spe
 use Rattle.lexer.specs.Fit.{fit, Clear, Asked, Longest}
 use Rattle.lexer.proofs.WalkLaws.{next-placed}
 
-length-zeros : (n : ℕ) → length (zeros n) ≡ n
+pub length-zeros : (n : ℕ) → length (zeros n) ≡ n
 length-zeros zero = refl
 length-zeros (suc n) = ap suc (length-zeros n)
 

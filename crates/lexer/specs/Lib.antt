@@ -16,6 +16,7 @@ pub mod Places
 pub mod FlagsOf
 pub mod Keywords
 pub mod Taken
+pub mod CalledBy
 pub mod Cut
 pub mod Fit
 pub mod Shown

@@ -13,3 +13,4 @@ pub mod prefix; // prefix.rt: the longest prefix of a name that is found
 pub mod keywords; // keywords.rt: words and symbols
 pub mod name; // name.rt: which of the parts are one name
 pub mod window; // window.rt: twelve characters ahead
+pub mod lexer; // lexer.rt: the state and the token call

@@ -17,7 +17,7 @@ use crate::flags::Flags;
 use scope::scope::Scope;
 
 // Sets the first n cells to 0.
-fn clear(buf: &mut [u32], n: usize)
+pub fn clear(buf: &mut [u32], n: usize)
     requires { ⌜ n ≤ length (now buf) ⌝ }
     ensures { λ r. ⌜ Wrote (now (buf .entry)) (zeros n) n (now (buf .exit)) ⌝ }
 {
