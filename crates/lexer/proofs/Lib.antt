@@ -13,9 +13,3 @@ pub mod PartLaws
 pub mod WalkLaws
 pub mod BoundLaws
 pub mod WindowLaws
-pub mod PrefixLaws
-pub mod CutLaws
-pub mod NamingLaws
-pub mod KeywordLaws
-pub mod TokenLaws
-pub mod LexerLaws

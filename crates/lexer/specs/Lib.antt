@@ -14,9 +14,6 @@ pub mod Numerals
 pub mod Pieces
 pub mod Places
 pub mod FlagsOf
-pub mod Keywords
 pub mod Taken
-pub mod CalledBy
-pub mod Cut
 pub mod Fit
 pub mod Shown

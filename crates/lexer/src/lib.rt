@@ -9,8 +9,4 @@ pub mod bound; // bound.rt: how many parts are worth a search
 pub mod token_type; // token_type.rt: the numbers of the token types
 pub mod flags; // flags.rt: the state's five flags
 pub mod token; // token.rt: what a token call reads
-pub mod prefix; // prefix.rt: the longest prefix of a name that is found
-pub mod keywords; // keywords.rt: words and symbols
-pub mod name; // name.rt: which of the parts are one name
 pub mod window; // window.rt: twelve characters ahead
-pub mod lexer; // lexer.rt: the state and the token call

@@ -12,7 +12,7 @@ use Rattle.reading.proofs.Test.{both}
 use Rattle.text.specs.Limits.{maxChars}
 use Rattle.text.specs.Refusals.{tooLong, shortSlice, brokenScope}
 use Rattle.scope.specs.Lent.{Lent, isBroken}
-use Rattle.lexer.proofs.PrefixLaws.{Clearing, clearing-all}
+use Rattle.naming.proofs.PrefixLaws.{Clearing, clearing-all}
 use Rattle.runs.specs.Record.{Record}
 use Rattle.runs.specs.Calls.{Room, Answer, made, refused, hasRoom, checked}
 use Rattle.runs.specs.Ran.{refusal}

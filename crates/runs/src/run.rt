@@ -85,7 +85,7 @@ fn read_item(
 {
     let p = at.position;
     let u = at.cells;
-    let o = lexer::token::read_token(
+    let o = tokens::token::read_token(
         &text[p..],
         at.flags,
         s,

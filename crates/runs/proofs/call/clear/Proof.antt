@@ -1,7 +1,7 @@
 -- The cells before i are zero, the others as they were.
 use Prim.Native.Nat.{_-_, _≤_}
 use lib.ListN.{length}
-use Rattle.lexer.proofs.PrefixLaws.{Clearing, clearing-none, clearing-more}
+use Rattle.naming.proofs.PrefixLaws.{Clearing, clearing-none, clearing-more}
 use Rattle.runs.proofs.CallLaws.{all-clear}
 use native.Mathlib.Omega.{arith}
 use Rattle.runs.proofs.call.clear.Statement.{statement}

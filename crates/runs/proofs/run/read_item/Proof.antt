@@ -9,7 +9,7 @@ use Rattle.runs.proofs.run.read_item.Lts as lts
 use Rattle.runs.proofs.item.Item.new.Reads as new-reads
 use Rattle.runs.proofs.item.ends_run.Reads as ends-run-reads
 use Rattle.runs.proofs.item.put_row.Reads as put-row-reads
-use Rattle.lexer.proofs.token.read_token.Reads as read-token-reads
+use Rattle.tokens.proofs.token.read_token.Reads as read-token-reads
 
 mul-read-token : tie.Need-mul-read-token
 mul-read-token c = search needs

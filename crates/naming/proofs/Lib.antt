@@ -1,0 +1,3 @@
+pub mod PrefixLaws
+pub mod CutLaws
+pub mod NamingLaws

@@ -1,0 +1,39 @@
+-- The rows of numbers are the words of the definition, by computation.
+use mathlib.Core.Path.{refl}
+use native.Mathlib.Omega.{arith}
+use Rattle.lexer.specs.Window.{words}
+use Rattle.tokens.specs.Keywords.{rowsOf, areRows}
+use Rattle.tokens.proofs.KeywordLaws.{same-rows}
+use borrow.Author.Needs.{needs}
+use Rattle.tokens.proofs.keywords.first_word.Statement.{statement}
+use Rattle.tokens.proofs.keywords.first_word.Tie as tie
+use Rattle.tokens.proofs.keywords.first_word.Reads as reads
+use Rattle.tokens.proofs.keywords.first_word.Lts as lts
+use Rattle.tokens.proofs.keywords.first_of.Reads as first-of-reads
+
+slice-aggregate-first-of : tie.Need-slice-aggregate-first-of
+slice-aggregate-first-of c = search needs
+
+slice-aggregate-first-of-2 : tie.Need-slice-aggregate-first-of-2
+slice-aggregate-first-of-2 c = search needs
+
+add-first-of : tie.Need-add-first-of
+add-first-of c = search needs
+
+first-of-requires : tie.Need-first-of-requires
+unfolding areRows
+first-of-requires c κs = (refl, omega arith, omega arith, c .before .before .before .pre .2, omega arith)
+
+returns : tie.Need-returns
+unfolding words rowsOf
+returns c = same-rows {ss = words} (c .first-of .ensures) refl
+
+pub first-word-spec : {M : Type 1} → statement M
+first-word-spec =
+    tie.close
+    (tie.spec
+    slice-aggregate-first-of
+    slice-aggregate-first-of-2
+    add-first-of
+    first-of-requires
+    returns)
