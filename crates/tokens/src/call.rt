@@ -47,6 +47,8 @@ impl Lexer {
         }
     }
 
+    // The setters set one flag and clear none.
+    // Ruled out, among others, of each of the five: another flag set with it; the start token taken for read.
     pub fn set_unary_tests(self) -> Lexer
         ensures { λ r. ⌜ stateOf r ≡ spec.set flag.UnaryTests (stateOf self) ⌝ }
     {
