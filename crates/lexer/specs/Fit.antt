@@ -1,10 +1,13 @@
 -- The longest prefix of a name that is found, by its number of parts.
 use mathlib.Core.Path.{_≡_}
-use mathlib.Core.Bool.{Bool, true, cond}
+use mathlib.Core.Bool.{Bool, true, false, cond}
 use mathlib.Core.List.{List}
-use Prim.Native.Nat.{ℕ, zero, suc, _≤_, _<_}
+use Prim.Native.Nat.{ℕ, zero, suc, _*_, _≤_, _<_}
 use lib.ListN.{length}
 use Rattle.reading.specs.Slices.{zeros}
+use Rattle.scope.specs.Capped.{Capped}
+use Rattle.scope.specs.Keys.{isName}
+use Rattle.scope.specs.Lent.{Lent, isBroken, scopeOf}
 use Rattle.lexer.specs.Flags.{Flags}
 use Rattle.lexer.specs.Naming.{fits, isProperty, isFound}
 use Rattle.lexer.specs.Places.{prefix}
@@ -32,3 +35,10 @@ pub record Asked (f : Flags) (isName : List ℕ → Bool) (x : List ℕ) (found 
 pub record Longest (f : Flags) (isName : List ℕ → Bool) (t : List ℕ) (from n parts : ℕ) (property : Bool) : Type 0 where
   pub most : parts ≡ fit (isFound f isName) t from n
   pub one : 0 < parts → property ≡ fits (isProperty f) (prefix t parts from)
+
+-- What a search for names in the text t is lent: scratch that is clear and twice as long, a scope that is not broken, and a number that none of its names exceeds.
+pub record Searchable (t : List ℕ) (lent : Lent) (cap : ℕ) (scratch : List ℕ) : Type 0 where
+  pub room : 2 * length t ≤ length scratch
+  pub whole : isBroken lent ≡ false
+  pub clean : Clear scratch
+  pub capped : Capped (isName (scopeOf lent)) cap

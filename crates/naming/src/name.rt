@@ -3,7 +3,7 @@ ghost use mathlib.Core.Path.{_≡_};
 ghost use mathlib.Core.Bool.{true, false, _&&_};
 ghost use mathlib.Core.Bool.{Bool};
 ghost use mathlib.Core.List.{List};
-ghost use Prim.Native.Nat.{ℕ, _+_, _*_, _≤_, _<_};
+ghost use Prim.Native.Nat.{ℕ, _+_, _≤_, _<_};
 ghost use lib.ListN.{length};
 ghost use Rattle.reading.specs.Look.{cellAt};
 ghost use Rattle.reading.specs.Cells.{holds, is};
@@ -12,15 +12,14 @@ ghost use Rattle.text.specs.Classes.{isNamePart};
 ghost use Rattle.names.specs.Same.{member};
 ghost use Rattle.names.specs.Fixed.{typeNames, temporalNames};
 ghost use Rattle.scope.specs.Keys.{isName};
-ghost use Rattle.scope.specs.Capped.{Capped};
-ghost use Rattle.scope.specs.Lent.{isBroken, scopeOf};
+ghost use Rattle.scope.specs.Lent.{scopeOf};
 ghost use Rattle.scope.specs.Answers.{lent};
 ghost use Rattle.lexer.specs.Read.{token, outcome};
 ghost use Rattle.lexer.specs.Naming as spec;
 ghost use Rattle.lexer.specs.Token.{fuel};
 ghost use Rattle.lexer.specs.Places.{prefix, Counted};
 ghost use Rattle.lexer.specs.FlagsOf.{flagsOf};
-ghost use Rattle.lexer.specs.Fit.{Clear};
+ghost use Rattle.lexer.specs.Fit.{Searchable};
 ghost use Rattle.lexer.specs.Taken.{Gives, Takes};
 ghost use Rattle.naming.specs.Cut.{Before, Roomy, byPrefixOf, byInOf, cutInOf};
 ghost use mathlib.Core.Option.{none};
@@ -199,8 +198,7 @@ fn by_prefix(
     out: &mut [u32],
     scratch: &mut [u32],
 ) -> Outcome
-    requires { ⌜ Counted (now rest) from n end × Roomy (now rest) from n (length (now out)) × (2 * length (now rest) ≤ length (now scratch)) × (isBroken (lent s (now slots) (now names)) ≡ false) × Clear (now scratch)
-        × Capped (isName (scopeOf (lent s (now slots) (now names)))) cap ⌝ }
+    requires { ⌜ Counted (now rest) from n end × Roomy (now rest) from n (length (now out)) × Searchable (now rest) (lent s (now slots) (now names)) cap (now scratch) ⌝ }
     ensures { λ r. ⌜ Gives (byPrefixOf (flagsOf flags) (isName (scopeOf (lent s (now (slots .entry)) (now (names .entry))))) (now (rest .entry)) from n end) (end + 1) (now (out .entry)) r (now (out .exit))
         × (now (scratch .exit) ≡ now (scratch .entry)) ⌝ }
 {
@@ -229,8 +227,7 @@ fn by_colon(
     out: &mut [u32],
     scratch: &mut [u32],
 ) -> Outcome
-    requires { ⌜ Counted (now rest) from n end × Roomy (now rest) from n (length (now out)) × (2 * length (now rest) ≤ length (now scratch)) × (isBroken (lent s (now slots) (now names)) ≡ false) × Clear (now scratch)
-        × Capped (isName (scopeOf (lent s (now slots) (now names)))) cap ⌝ }
+    requires { ⌜ Counted (now rest) from n end × Roomy (now rest) from n (length (now out)) × Searchable (now rest) (lent s (now slots) (now names)) cap (now scratch) ⌝ }
     ensures { λ r. ⌜ Gives (byInOf (flagsOf flags) (isName (scopeOf (lent s (now (slots .entry)) (now (names .entry))))) (now (rest .entry)) from n end none) (end + 1) (now (out .entry)) r (now (out .exit))
         × (now (scratch .exit) ≡ now (scratch .entry)) ⌝ }
 {
@@ -266,8 +263,7 @@ fn by_in(
     out: &mut [u32],
     scratch: &mut [u32],
 ) -> Outcome
-    requires { ⌜ Counted (now rest) from n end × Roomy (now rest) from n (length (now out)) × (2 * length (now rest) ≤ length (now scratch)) × (isBroken (lent s (now slots) (now names)) ≡ false) × Clear (now scratch)
-        × Capped (isName (scopeOf (lent s (now slots) (now names)))) cap ⌝ }
+    requires { ⌜ Counted (now rest) from n end × Roomy (now rest) from n (length (now out)) × Searchable (now rest) (lent s (now slots) (now names)) cap (now scratch) ⌝ }
     ensures { λ r. ⌜ Gives (cutInOf (flagsOf flags) (isName (scopeOf (lent s (now (slots .entry)) (now (names .entry))))) (now (rest .entry)) from n end) (end + 1) (now (out .entry)) r (now (out .exit))
         × (now (scratch .exit) ≡ now (scratch .entry)) ⌝ }
 {
@@ -326,8 +322,7 @@ pub fn read_name(
     out: &mut [u32],
     scratch: &mut [u32],
 ) -> Outcome
-    requires { ⌜ (length (now rest) ≤ maxChars) × (holds isNamePart (cellAt (now rest) i) ≡ true) × (length (now rest) ≤ length (now out)) × (2 * length (now rest) ≤ length (now scratch)) × (isBroken (lent s (now slots) (now names)) ≡ false) × Clear (now scratch)
-        × Capped (isName (scopeOf (lent s (now slots) (now names)))) cap ⌝ }
+    requires { ⌜ (length (now rest) ≤ maxChars) × (holds isNamePart (cellAt (now rest) i) ≡ true) × (length (now rest) ≤ length (now out)) × Searchable (now rest) (lent s (now slots) (now names)) cap (now scratch) ⌝ }
     ensures { λ r. ⌜ Takes (now (rest .entry)) 0 (spec.readName fuel (flagsOf flags) (isName (scopeOf (lent s (now (slots .entry)) (now (names .entry))))) i) (now (out .entry)) r (now (out .exit))
         × (now (scratch .exit) ≡ now (scratch .entry)) ⌝ }
 {

@@ -5,14 +5,13 @@ ghost use Prim.Native.Nat.{_*_, _≤_};
 ghost use lib.ListN.{length};
 ghost use Rattle.reading.specs.Slices.{Wrote, zeros};
 ghost use Rattle.scope.specs.Keys.{isName};
-ghost use Rattle.scope.specs.Capped.{Capped};
 ghost use Rattle.scope.specs.Lent.{isBroken, scopeOf};
 ghost use Rattle.scope.specs.Answers.{lent};
 ghost use Rattle.names.specs.Flatten.{flatten};
 ghost use Rattle.lexer.specs.Naming.{texts};
 ghost use Rattle.lexer.specs.Places.{prefix};
 ghost use Rattle.lexer.specs.FlagsOf.{flagsOf};
-ghost use Rattle.lexer.specs.Fit.{Clear, Asked, Longest};
+ghost use Rattle.lexer.specs.Fit.{Clear, Asked, Longest, Searchable};
 use lexer::flags::Flags;
 use scope::scope::Scope;
 
@@ -143,8 +142,7 @@ pub fn longest_prefix(
     cap: usize,
     scratch: &mut [u32],
 ) -> Prefix
-    requires { ⌜ (from ≤ length (now rest)) × (2 * length (now rest) ≤ length (now scratch)) × (isBroken (lent s (now slots) (now names)) ≡ false) × Clear (now scratch)
-        × Capped (isName (scopeOf (lent s (now slots) (now names)))) cap ⌝ }
+    requires { ⌜ (from ≤ length (now rest)) × Searchable (now rest) (lent s (now slots) (now names)) cap (now scratch) ⌝ }
     ensures { λ r. ⌜ Longest (flagsOf flags) (isName (scopeOf (lent s (now (slots .entry)) (now (names .entry))))) (now (rest .entry)) from n (r .parts) (r .property)
         × (now (scratch .exit) ≡ now (scratch .entry)) ⌝ }
 {

@@ -23,7 +23,7 @@ ghost use Rattle.lexer.specs.Token.{fuel, withFlags, otherCases, behindWords, c
 ghost use Rattle.lexer.specs.Shown.{windowOf};
 ghost use Rattle.tokens.specs.Keywords.{valueOf};
 ghost use Rattle.lexer.specs.FlagsOf.{flagsOf};
-ghost use Rattle.lexer.specs.Fit.{Clear};
+ghost use Rattle.lexer.specs.Fit.{Clear, Searchable};
 ghost use Rattle.lexer.specs.Taken.{Gives, Takes, Taken};
 use crate::keywords::Match;
 use lexer::flags::Flags;
@@ -148,8 +148,7 @@ fn other_cases(
     out: &mut [u32],
     scratch: &mut [u32],
 ) -> Outcome
-    requires { ⌜ (length (now rest) ≤ maxChars) × (i ≤ length (now rest)) × (w ≡ windowOf 12 (now rest) i) × (length (now rest) ≤ length (now out)) × (2 * length (now rest) ≤ length (now scratch)) × (isBroken (lent s (now slots) (now names)) ≡ false) × Clear (now scratch)
-        × Capped (isName (scopeOf (lent s (now slots) (now names)))) cap ⌝ }
+    requires { ⌜ (length (now rest) ≤ maxChars) × (i ≤ length (now rest)) × (w ≡ windowOf 12 (now rest) i) × (length (now rest) ≤ length (now out)) × Searchable (now rest) (lent s (now slots) (now names)) cap (now scratch) ⌝ }
     ensures { λ r. ⌜ Takes (now (rest .entry)) q (otherCases fuel (flagsOf flags) (isName (scopeOf (lent s (now (slots .entry)) (now (names .entry))))) w i) (now (out .entry)) r (now (out .exit))
         × (now (scratch .exit) ≡ now (scratch .entry)) ⌝ }
 {
@@ -199,8 +198,7 @@ fn behind_words(
     out: &mut [u32],
     scratch: &mut [u32],
 ) -> Outcome
-    requires { ⌜ (length (now rest) ≤ maxChars) × (i ≤ length (now rest)) × (w ≡ windowOf 12 (now rest) i) × (length (now rest) ≤ length (now out)) × (2 * length (now rest) ≤ length (now scratch)) × (isBroken (lent s (now slots) (now names)) ≡ false) × Clear (now scratch)
-        × Capped (isName (scopeOf (lent s (now slots) (now names)))) cap × (q ≤ length (now rest) + 12) ⌝ }
+    requires { ⌜ (length (now rest) ≤ maxChars) × (i ≤ length (now rest)) × (w ≡ windowOf 12 (now rest) i) × (length (now rest) ≤ length (now out)) × (q ≤ length (now rest) + 12) × Searchable (now rest) (lent s (now slots) (now names)) cap (now scratch) ⌝ }
     ensures { λ r. ⌜ Takes (now (rest .entry)) q (behindWords fuel (flagsOf flags) (isName (scopeOf (lent s (now (slots .entry)) (now (names .entry))))) w i) (now (out .entry)) r (now (out .exit))
         × (now (scratch .exit) ≡ now (scratch .entry)) ⌝ }
 {
@@ -242,8 +240,7 @@ fn by_window(
     out: &mut [u32],
     scratch: &mut [u32],
 ) -> Outcome
-    requires { ⌜ (length (now rest) ≤ maxChars) × (i ≤ length (now rest)) × (w ≡ windowOf 12 (now rest) i) × (length (now rest) ≤ length (now out)) × (2 * length (now rest) ≤ length (now scratch)) × (isBroken (lent s (now slots) (now names)) ≡ false) × Clear (now scratch)
-        × Capped (isName (scopeOf (lent s (now slots) (now names)))) cap ⌝ }
+    requires { ⌜ (length (now rest) ≤ maxChars) × (i ≤ length (now rest)) × (w ≡ windowOf 12 (now rest) i) × (length (now rest) ≤ length (now out)) × Searchable (now rest) (lent s (now slots) (now names)) cap (now scratch) ⌝ }
     ensures { λ r. ⌜ Takes (now (rest .entry)) (i + 12) (cases fuel (flagsOf flags) (isName (scopeOf (lent s (now (slots .entry)) (now (names .entry))))) w i) (now (out .entry)) r (now (out .exit))
         × (now (scratch .exit) ≡ now (scratch .entry)) ⌝ }
 {

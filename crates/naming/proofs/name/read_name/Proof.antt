@@ -36,7 +36,7 @@ returns : tie.Need-returns
 returns c = let k = c .before .before .before .before .before .before .before .before .before .before .before in let n = c .before .before .before .before .before .before .before .count-parts .ensures in (item-there n _ _ (some-part (k .pre .0) (k .pre .1) n) (c .before .before .before .before .before .next-is .ensures) (c .before .before .before .before .if1 .taken) (c .before .before .cut-at .ensures), refl)
 
 by-in-requires : tie.Need-by-in-requires
-by-in-requires c κs = let k = c .before .before .before .before .before .before .before .before .before in let n = c .before .before .before .before .before .count-parts .ensures in (n, roomy (k .pre .0) (k .pre .1) n (omega arith), omega arith, k .pre .4, k .pre .5, k .pre .6)
+by-in-requires c κs = let k = c .before .before .before .before .before .before .before .before .before in let n = c .before .before .before .before .before .count-parts .ensures in (n, roomy (k .pre .0) (k .pre .1) n (omega arith), k .pre .3)
 
 same-length-2 : tie.Need-same-length-2
 same-length-2 c = search needs

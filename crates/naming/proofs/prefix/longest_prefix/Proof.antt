@@ -28,7 +28,7 @@ returns c =
     let b = l .before .before in
     let t = b .before in
     let k = t .before .before .before in
-    (bounded (b .bound .ensures .so _ (capped (k .pre .4) (flagsOf (k .args .flags)) (t .longest-text .ensures))) (l .longest .ensures .0), l .longest .ensures .1)
+    (bounded (b .bound .ensures .so _ (capped (k .pre .1 .capped) (flagsOf (k .args .flags)) (t .longest-text .ensures))) (l .longest .ensures .0), l .longest .ensures .1)
 
 pub longest-prefix-spec : {M : Type 1} → statement M
 longest-prefix-spec =

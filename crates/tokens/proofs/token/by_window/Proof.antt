@@ -25,7 +25,7 @@ enum-known-m-2 : tie.Need-enum-known-m-2
 enum-known-m-2 c = search needs
 
 behind-words-requires : tie.Need-behind-words-requires
-behind-words-requires c κs = let k = c .before .before .before .before .before .before .before .before .before in (omega arith, omega arith, k .pre .2, omega arith, omega arith, k .pre .5, k .pre .6, k .pre .7, row-reach words (c .before .before .before .before .before .first-word .ensures) (c .before .before .before .m2 .given .1))
+behind-words-requires c κs = let k = c .before .before .before .before .before .before .before .before .before in (omega arith, omega arith, k .pre .2, omega arith, row-reach words (c .before .before .before .before .before .first-word .ensures) (c .before .before .before .m2 .given .1), k .pre .4)
 
 returns : tie.Need-returns
 returns c = (row-taken words (c .before .before .before .before .first-word .ensures) _ (c .before .before .m .given .1) (c .of-row .ensures), refl)

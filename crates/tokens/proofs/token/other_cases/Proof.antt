@@ -43,7 +43,7 @@ is-name-start-char-requires : tie.Need-is-name-start-char-requires
 is-name-start-char-requires c κs = search needs
 
 read-name-requires : tie.Need-read-name-requires
-read-name-requires c κs = let k = c .before .before .before .before .before .before .before .before .before in (omega arith, name-there _ _ (k .pre .2) (sym (c .before .before .before .is-name-start-char .ensures) ∙ c .before .before .if2 .taken), omega arith, omega arith, k .pre .5, k .pre .6, k .pre .7)
+read-name-requires c κs = let k = c .before .before .before .before .before .before .before .before .before in (omega arith, name-there _ _ (k .pre .2) (sym (c .before .before .before .is-name-start-char .ensures) ∙ c .before .before .if2 .taken), omega arith, k .pre .4)
 
 larger-requires : tie.Need-larger-requires
 larger-requires c κs = search needs
