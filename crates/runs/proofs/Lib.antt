@@ -15,3 +15,4 @@ pub mod CodedLaws
 pub mod CallLaws
 pub mod RanLaws
 pub mod RunCallLaws
+pub mod BehindLaws

@@ -9,3 +9,4 @@ pub mod Calls
 pub mod Print
 pub mod Coded
 pub mod Ran
+pub mod Copied

@@ -6,3 +6,5 @@ pub mod run; // run.rt: a run over a text
 pub mod cell; // cell.rt: a cell of a row
 pub mod kept; // kept.rt: the items that an edit leaves as they were
 pub mod request; // request.rt: whether a repair request is broken
+pub mod edit; // edit.rt: an edit and the places behind it
+pub mod copy; // copy.rt: old items written again, moved
