@@ -16,3 +16,5 @@ pub mod CallLaws
 pub mod RanLaws
 pub mod RunCallLaws
 pub mod BehindLaws
+pub mod MatchLaws
+pub mod FreshLaws

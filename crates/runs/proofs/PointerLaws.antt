@@ -16,12 +16,9 @@ use Rattle.runs.specs.Item.{Item}
 use Rattle.runs.specs.Edit.{Edit, moved, movedItem}
 use Rattle.runs.specs.Repair.{sameFlags, isMatch, oldRest, followed}
 use Rattle.runs.specs.Record.{Record, itemOf, bitFlags, positionAt, flagsAt, lengthAt}
+use Rattle.runs.specs.Match.{placeAt, Passed}
 use Rattle.runs.specs.Request.{rowsFit, firstFits, recordFits}
 use Rattle.runs.proofs.FittingLaws.{followed-by, first-place, first-behind, record-first}
-
--- The position of the row at i.
-abbrev pub placeAt : List (List ℕ) → ℕ → ℕ
-placeAt rows i = getD (getD rows i []) positionAt 0
 
 -- Positions rise from row to row, up to the last row, which may stand where the one before it does.
 pub record Rising (rows : List (List ℕ)) : Type 0 where
@@ -75,11 +72,6 @@ module _ (e : Edit) (store : List ℕ) (p : ℕ) (f : Flags) where
   none-ahead [] h = refl
   none-ahead (r ∷ []) h = refl
   none-ahead (r ∷ s ∷ rs) h = passed-by r (s ∷ rs) (unmatched e (itemOf store r) p f (λ _ q. h 0 (omega arith) q)) ∙ none-ahead (s ∷ rs) (λ k l. h (suc k) (omega arith))
-
--- The rows before j are passed: none matches a state at p or behind it.
-pub record Passed (e : Edit) (rows : List (List ℕ)) (j p : ℕ) : Type 0 where
-  pub within : j ≤ length rows
-  pub same : (store : List ℕ) (q : ℕ) (f : Flags) → p ≤ q → oldRest e (map (itemOf store) rows) q f ≡ oldRest e (map (itemOf store) (drop j rows)) q f
 
 module _ {e : Edit} {rows : List (List ℕ)} where
   pub passed-none : {p : ℕ} → Passed e rows 0 p

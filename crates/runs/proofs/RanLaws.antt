@@ -159,12 +159,13 @@ module _ (isName : List ℕ → Bool) (t : List ℕ) (at : Progress) (store : Li
         value = lent-back store (cellsOf (w .read)) (at .cells) (w .left);
         short = omega (arith, s .short);
         within = omega (arith, s .inText);
+        far = found isName t (at .position) (flagsOf (at .flags)) w limit within .far;
         onward = λ h. omega (arith, s .onward h);
       }
 
 pub next-long : {tok : Reader} {t : List ℕ} {at : Progress} {rows : List (List ℕ)} {store : List ℕ} {at′ : Progress} {rows′ : List (List ℕ)} {store′ : List ℕ} → Next tok t at rows store at′ rows′ store′
-    → at .cells ≤ at .position → length t ≤ length store → length store′ ≡ length store
-next-long n h l = rw (n .value) (simp (length-append, length-take, length-drop) (omega (arith, n .short, n .within)))
+    → at .cells + (length t - at .position) ≤ length store → length store′ ≡ length store
+next-long n h = rw (n .value) (simp (length-append, length-take, length-drop) (omega (arith, n .short, n .within)))
 
 items-step : (tok : Reader) (n : ℕ) (t : List ℕ) (p : ℕ) (f : spec.Flags) {i : Item} → i ≡ itemAt tok t p f → items tok (suc n) t p f ≡ i ∷ cond (endsRun i) [] (items tok n t (i .position) (i .flags))
 unfolding items
@@ -192,7 +193,7 @@ module _ {tok : Reader} {k : ℕ} {f : spec.Flags} {t : List ℕ} {rows : List (
         short = omega (arith, n .cells, n .position, s .short);
         few = λ e. omega (arith, n .count, n .position, n .onward (sym (n .ended) ∙ e));
         as-many = ap length (n .row) ∙ length-set rows′ (at .items) _ ∙ s .as-many;
-        as-long = next-long n (s .short) (omega (arith, s .as-long)) ∙ s .as-long;
+        as-long = next-long n (omega (arith, s .short, s .as-long)) ∙ s .as-long;
       }
 
   -- Behind the item that ends the run.

@@ -72,7 +72,7 @@ row-count at (i ∷ is) = ap suc (row-count _ is)
 bit-again : (n : ℕ) → n ≤ 1 → bit (eqb n 1) ≡ n
 bit-again n h = eqb-true _ _ (below (λ n. eqb (bit (eqb n 1)) n) 2 refl n (omega arith))
 
-bits-again : (n : ℕ) → n ≤ 31 → flagBits (bitFlags n) ≡ n
+pub bits-again : (n : ℕ) → n ≤ 31 → flagBits (bitFlags n) ≡ n
 bits-again n h = eqb-true _ _ (below (λ n. eqb (flagBits (bitFlags n)) n) 32 refl n (omega arith))
 
 -- A row of eleven is its eleven places.

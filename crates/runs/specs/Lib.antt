@@ -10,3 +10,5 @@ pub mod Print
 pub mod Coded
 pub mod Ran
 pub mod Copied
+pub mod Match
+pub mod Repaired

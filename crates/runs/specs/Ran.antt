@@ -49,6 +49,7 @@ pub record Next (tok : Reader) (t : List ℕ) (at : Progress) (rows : List (List
   pub value : store′ ≡ take (at .cells) store ++ front (item .value) (drop (at .cells) store)
   pub short : length (item .value) + at .position ≤ item .position
   pub within : item .position ≤ length t
+  pub far : item .reach ≤ length t + 12
   pub onward : endsRun item ≡ false → at .position + 1 ≤ item .position
 
 -- A run stands at `at`: its items so far are packed in the fronts of the slices, and those from there on are still to come.

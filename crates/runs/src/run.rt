@@ -2,7 +2,7 @@
 ghost use mathlib.Core.Path.{_≡_};
 ghost use mathlib.Core.Bool.{true, false, cond};
 ghost use mathlib.Core.List.{List};
-ghost use Prim.Native.Nat.{ℕ, _+_, _*_, _≤_, _<_};
+ghost use Prim.Native.Nat.{ℕ, _+_, _-_, _*_, _≤_, _<_};
 ghost use lib.ListN.{length};
 ghost use Rattle.reading.specs.Cells.{isOneOf};
 ghost use Rattle.text.specs.Limits.{maxChars};
@@ -66,7 +66,7 @@ fn put_start(start_type: u32, flags: Flags, rows: &mut [[u32; 11]]) -> Progress
 }
 
 // Reads the next item: its value goes behind the last one, its row behind the last row.
-fn read_item(
+pub fn read_item(
     text: &[u32],
     at: Progress,
     s: Scope,
@@ -77,8 +77,8 @@ fn read_item(
     store: &mut [u32],
     scratch: &mut [u32],
 ) -> Progress
-    requires { ⌜ (length (now text) ≤ maxChars) × (length (now text) ≤ length (now store)) × (2 * length (now text) ≤ length (now scratch))
-        × (at .position ≤ length (now text)) × (at .cells ≤ at .position) × (at .items < length (now rows)) × (at .items ≤ maxChars + 1)
+    requires { ⌜ (length (now text) ≤ maxChars) × (at .cells + (length (now text) - at .position) ≤ length (now store)) × (2 * length (now text) ≤ length (now scratch))
+        × (at .position ≤ length (now text)) × (at .cells ≤ maxChars) × (at .items < length (now rows)) × (at .items ≤ maxChars + 1)
         × (isBroken (lent s (now slots) (now names)) ≡ false) × Clear (now scratch) × Capped (isName (scopeOf (lent s (now slots) (now names)))) cap ⌝ }
     ensures { λ r. ⌜ Next (readToken (isName (scopeOf (lent s (now (slots .entry)) (now (names .entry)))))) (now (text .entry)) at (now (rows .entry)) (now (store .entry)) r (now (rows .exit)) (now (store .exit))
         × (now (scratch .exit) ≡ now (scratch .entry)) ⌝ }

@@ -87,7 +87,7 @@ same-length-2 : tie.Need-same-length-2
 same-length-2 c =
     let k = c .before .before .before .before .before .before .before .before .before .before .before .before .before .before .before .before .before .before .before .before .before .before in
     let n = next-is _ (k .args .text .now) (k .args .at) (k .args .store .now) (c .before .before .before .before .before .before .before .before .before .before .before .before .before .before .before .read-token .ensures .0) (k .pre .0) (k .pre .3) {rows = k .args .rows .now} (c .before .before .before .before .before .before .before .new .ensures) (c .before .before .before .before .before .put-row .ensures) (c .before .before .before .ends-run .ensures) in
-    next-long n (k .pre .4) (k .pre .1)
+    next-long n (k .pre .1)
 
 same-length-3 : tie.Need-same-length-3
 same-length-3 c = search needs

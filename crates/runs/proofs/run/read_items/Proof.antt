@@ -40,7 +40,7 @@ read-item-requires c κs =
     let l = c .before .before .before .before .before in
     let s = l .loop .inv .0 .so (c .before .before .before .before .before .before .before .put-start .ensures _ _ _) (k .pre .1) (k .pre .2) in
     let f = s .few (not-true _ (c .before .before .before .if1 .taken)) in
-    (k .pre .0, omega (arith, s .as-long, k .pre .2), omega (arith, ap length (l .loop .inv .1), k .pre .3), s .within, s .short, omega (arith, f, s .within, s .as-many, k .pre .1), omega (arith, f, s .within, k .pre .0), k .pre .4, subst Clear (sym (l .loop .inv .1)) (k .pre .5), c .before .before .before .before .before .before .before .before .before .longest-key .ensures)
+    (k .pre .0, omega (arith, s .as-long, s .short, k .pre .2), omega (arith, ap length (l .loop .inv .1), k .pre .3), s .within, omega (arith, s .short, s .within, k .pre .0), omega (arith, f, s .within, s .as-many, k .pre .1), omega (arith, f, s .within, k .pre .0), k .pre .4, subst Clear (sym (l .loop .inv .1)) (k .pre .5), c .before .before .before .before .before .before .before .before .before .longest-key .ensures)
 
 loop-less : tie.Need-loop-less Inv-loop μ-loop
 loop-less c =

@@ -1,0 +1,96 @@
+// Repair of a record after one edit: kept items, items read afresh to the first match, and the old rest moved.
+ghost use mathlib.Core.Path.{_≡_};
+ghost use mathlib.Core.Bool.{false};
+ghost use Prim.Native.Nat.{_+_, _-_, _*_, _≤_, _<_};
+ghost use lib.ListN.{length};
+ghost use Rattle.text.specs.Limits.{maxChars};
+ghost use Rattle.scope.specs.Keys.{isName};
+ghost use Rattle.scope.specs.Capped.{Capped};
+ghost use Rattle.scope.specs.Lent.{isBroken, scopeOf};
+ghost use Rattle.scope.specs.Answers.{lent};
+ghost use Rattle.lexer.specs.Fit.{Clear};
+ghost use Rattle.lexer.specs.FlagsOf.{flagsOf};
+ghost use Rattle.lexer.specs.Token.{readToken};
+ghost use Rattle.runs.specs.Copied.{editOf};
+ghost use Rattle.runs.specs.Match.{Accepted, Passed, Before, Ahead, Looked};
+ghost use Rattle.runs.specs.Repaired.{Fresh};
+use crate::cell;
+use crate::copy;
+use crate::edit;
+use crate::edit::Edit;
+use crate::item;
+use crate::item::Item;
+use crate::run;
+use crate::run::Progress;
+use lexer::flags::Flags;
+use scope::scope::Scope;
+
+// Whether an old item at the place q lies before the edit's end or is moved to a place before p.
+fn is_before(e: Edit, q: usize, p: usize) -> bool
+    requires { ⌜ (q < 4_294_967_296) × (e .from + e .size ≤ maxChars) ⌝ }
+    ensures { λ r. ⌜ Before (editOf e) q p r ⌝ }
+{
+    if q < e.to {
+        return true;
+    }
+    edit::moved(e, q) < p
+}
+
+// The first old row from `first` on that is moved to p or behind it; the last row at the latest.
+fn pass_old(old_rows: &[[u32; 11]], first: usize, e: Edit, p: usize) -> usize
+    requires { ⌜ Passed (editOf e) (now «old_rows») first p × (e .from + e .size ≤ maxChars) ⌝ }
+    ensures { λ r. ⌜ Passed (editOf e) (now («old_rows» .entry)) r p × Ahead (editOf e) (now («old_rows» .entry)) r p ⌝ }
+{
+    let mut j = first;
+    while j + 1 < old_rows.len() {
+        let q = cell::wide(old_rows[j][Item::POSITION]);
+        if !is_before(e, q, p) {
+            return j;
+        }
+        j += 1;
+    }
+    j
+}
+
+// Whether the old row at j, which is not the last, matches the state of position p and these flags.
+fn is_match(old_rows: &[[u32; 11]], j: usize, e: Edit, p: usize, flags: Flags) -> bool
+    requires { ⌜ Passed (editOf e) (now «old_rows») j p × Ahead (editOf e) (now «old_rows») j p × Accepted (now «old_rows») × (e .from + e .size ≤ maxChars) ⌝ }
+    ensures { λ r. ⌜ Looked (editOf e) (now («old_rows» .entry)) j p (flagsOf flags) r ⌝ }
+{
+    if old_rows.len() <= j + 1 {
+        return false;
+    }
+    let q = cell::wide(old_rows[j][Item::POSITION]);
+    if edit::moved(e, q) != p {
+        return false;
+    }
+    old_rows[j][Item::FLAGS] == item::flag_bits(flags)
+}
+
+// Reads the next item of a part that begins at `base`, and writes it with its place in the whole text.
+fn read_fresh(
+    part: &[u32],
+    base: usize,
+    at: Progress,
+    s: Scope,
+    slots: &[[u32; 4]],
+    names: &[[u32; 128]],
+    cap: usize,
+    rows: &mut [[u32; 11]],
+    store: &mut [u32],
+    scratch: &mut [u32],
+) -> Progress
+    requires { ⌜ (base + length (now part) ≤ maxChars) × (at .cells + (length (now part) - at .position) ≤ length (now store)) × (2 * length (now part) ≤ length (now scratch))
+        × (at .position ≤ length (now part)) × (at .cells ≤ maxChars) × (at .items < length (now rows)) × (at .items ≤ maxChars + 1)
+        × (isBroken (lent s (now slots) (now names)) ≡ false) × Clear (now scratch) × Capped (isName (scopeOf (lent s (now slots) (now names)))) cap ⌝ }
+    ensures { λ r. ⌜ Fresh (readToken (isName (scopeOf (lent s (now (slots .entry)) (now (names .entry)))))) (now (part .entry)) base at (now (rows .entry)) (now (store .entry)) r (now (rows .exit)) (now (store .exit))
+        × (now (scratch .exit) ≡ now (scratch .entry)) ⌝ }
+{
+    let next = run::read_item(part, at, s, slots, names, cap, rows, store, scratch);
+    let n = at.items;
+    let row = rows[n];
+    let position = base + cell::wide(row[Item::POSITION]);
+    let reach = base + cell::wide(row[Item::REACH]);
+    copy::put_moved(rows, n, row, position, reach, at.cells);
+    next
+}
