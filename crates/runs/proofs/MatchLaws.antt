@@ -8,6 +8,7 @@ use lib.Dec.{leb, ltb, eqb}
 use lib.ListN.{length, getD}
 use borrow.Author.Tests.{leb-true, ltb-true, ltb-false, eqb-true, eq-eqb}
 use Rattle.reading.proofs.Test.{both}
+use Rattle.text.specs.Limits.{maxChars}
 use Rattle.lexer.specs.Flags.{Flags}
 use Rattle.runs.specs.Edit.{Edit, moved}
 use Rattle.runs.specs.Repair.{sameFlags}
@@ -81,3 +82,7 @@ module _ {e : Edit} {rows : List (List ℕ)} {j p : ℕ} (s : Passed e rows j p)
           found = λ b. record { more = h; behind = o .so h .0; place = q; rest = λ store. match-here s (record-rising (a .size) (record { rows = rows; store = a .store }) (a .fits)) h (o .so h .0) store f q (numbers-same n f (rw z at b)) };
           missed = λ b store. match-none s (record-rising (a .size) (record { rows = rows; store = a .store }) (a .fits)) h (o .so h .0) store f (o .so h .1) (λ _. numbers-differ n f small (rw z at b));
         }
+
+-- An accepted record is short.
+pub accepted-few : {rows : List (List ℕ)} → Accepted rows → length rows ≤ maxChars + 2
+accepted-few {rows} a = omega (arith, leb-true (length rows) (a .size + 2) (both (leb (length rows) (a .size + 2)) _ (a .fits) .0), a .limit)

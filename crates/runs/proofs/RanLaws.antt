@@ -167,7 +167,7 @@ pub next-long : {tok : Reader} {t : List ℕ} {at : Progress} {rows : List (List
     → at .cells + (length t - at .position) ≤ length store → length store′ ≡ length store
 next-long n h = rw (n .value) (simp (length-append, length-take, length-drop) (omega (arith, n .short, n .within)))
 
-items-step : (tok : Reader) (n : ℕ) (t : List ℕ) (p : ℕ) (f : spec.Flags) {i : Item} → i ≡ itemAt tok t p f → items tok (suc n) t p f ≡ i ∷ cond (endsRun i) [] (items tok n t (i .position) (i .flags))
+pub items-step : (tok : Reader) (n : ℕ) (t : List ℕ) (p : ℕ) (f : spec.Flags) {i : Item} → i ≡ itemAt tok t p f → items tok (suc n) t p f ≡ i ∷ cond (endsRun i) [] (items tok n t (i .position) (i .flags))
 unfolding items
 items-step tok n t p f e = subst (λ i. items tok (suc n) t p f ≡ i ∷ cond (endsRun i) [] (items tok n t (i .position) (i .flags))) (sym e) refl
 

@@ -13,9 +13,10 @@ ghost use Rattle.lexer.specs.FlagsOf.{flagsOf};
 ghost use Rattle.lexer.specs.Token.{readToken};
 ghost use Rattle.runs.specs.Copied.{editOf};
 ghost use Rattle.runs.specs.Match.{Accepted, Passed, Before, Ahead, Looked};
-ghost use Rattle.runs.specs.Repaired.{Fresh};
+ghost use Rattle.runs.specs.Repaired.{Fresh, ToMatch};
 use crate::cell;
 use crate::copy;
+use crate::copy::Place;
 use crate::edit;
 use crate::edit::Edit;
 use crate::item;
@@ -24,6 +25,13 @@ use crate::run;
 use crate::run::Progress;
 use lexer::flags::Flags;
 use scope::scope::Scope;
+
+// Fresh items are written up to here, and the old rows from `old` on follow.
+pub struct Matched {
+    pub items: usize,
+    pub cells: usize,
+    pub old: usize,
+}
 
 // Whether an old item at the place q lies before the edit's end or is moved to a place before p.
 fn is_before(e: Edit, q: usize, p: usize) -> bool
@@ -93,4 +101,53 @@ fn read_fresh(
     let reach = base + cell::wide(row[Item::REACH]);
     copy::put_moved(rows, n, row, position, reach, at.cells);
     next
+}
+
+// Reads items of a part that begins at `base`, behind the kept ones, to the first match with an old row, or to the run's end.
+fn read_to_match(
+    part: &[u32],
+    base: usize,
+    flags: Flags,
+    kept: Place,
+    e: Edit,
+    old_rows: &[[u32; 11]],
+    s: Scope,
+    slots: &[[u32; 4]],
+    names: &[[u32; 128]],
+    rows: &mut [[u32; 11]],
+    store: &mut [u32],
+    scratch: &mut [u32],
+) -> Matched
+    requires { ⌜ (base + length (now part) ≤ maxChars) × (kept .items + length (now part) + 1 ≤ length (now rows)) × (kept .cells + length (now part) ≤ length (now store)) × (2 * length (now part) ≤ length (now scratch))
+        × (kept .items ≤ base + 1) × (kept .cells ≤ base) × (e .from + e .size ≤ maxChars) × Accepted (now «old_rows»)
+        × (isBroken (lent s (now slots) (now names)) ≡ false) × Clear (now scratch) ⌝ }
+    ensures { λ r. ⌜ ToMatch (readToken (isName (scopeOf (lent s (now (slots .entry)) (now (names .entry)))))) (editOf e) (now («old_rows» .entry)) (now (part .entry)) base (flagsOf flags) (kept .items) (kept .cells) (now (rows .entry)) (now (store .entry)) r (now (rows .exit)) (now (store .exit))
+        × (now (scratch .exit) ≡ now (scratch .entry)) ⌝ }
+{
+    let cap = scope::longest::longest_key(s, slots, names);
+    let mut at = Progress {
+        position: 0,
+        flags,
+        items: kept.items,
+        cells: kept.cells,
+        ended: false,
+    };
+    let mut j: usize = 0;
+    while !at.ended {
+        let p = base + at.position;
+        j = pass_old(old_rows, j, e, p);
+        if is_match(old_rows, j, e, p, at.flags) {
+            return Matched {
+                items: at.items,
+                cells: at.cells,
+                old: j + 1,
+            };
+        }
+        at = read_fresh(part, base, at, s, slots, names, cap, rows, store, scratch);
+    }
+    Matched {
+        items: at.items,
+        cells: at.cells,
+        old: old_rows.len(),
+    }
 }
