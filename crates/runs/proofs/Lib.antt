@@ -18,3 +18,4 @@ pub mod RunCallLaws
 pub mod BehindLaws
 pub mod MatchLaws
 pub mod FreshLaws
+pub mod PrintLaws

@@ -9,3 +9,4 @@ pub mod request; // request.rt: whether a repair request is broken
 pub mod edit; // edit.rt: an edit and the places behind it
 pub mod copy; // copy.rt: old items written again, moved
 pub mod repair; // repair.rt: repair of a record after one edit
+pub mod print; // print.rt: the line that is printed for an item
