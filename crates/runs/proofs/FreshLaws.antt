@@ -99,6 +99,7 @@ module _ {tok : Reader} {e : Edit} {old : List (List ℕ)} {part : List ℕ} {ba
       all = λ values. sym (k .all values) ∙ rw (h, o, drop-length);
       behind = rw (a, b) (k .behind);
       within = omega (arith, o);
+      short = omega (arith, b, k .behind .cells, k .short, k .within);
       left = λ l. absurd (omega (arith, o));
     }
 
@@ -118,6 +119,7 @@ module _ {tok : Reader} {e : Edit} {old : List (List ℕ)} {part : List ℕ} {ba
         all = λ values. sym (ahead refl values) ∙ rw (o, followed-old e (map (itemOf values) old) _ _ (base + at .position) (flagsOf (at .flags)) (w .rest values));
         behind = rw (a, b) (k .behind);
         within = omega (arith, o, w .more);
+        short = omega (arith, b, k .behind .cells, k .short, k .within);
         left = λ _. record { row = j′; next = o; behind = w .behind; few = omega (arith, a, w .place, k .behind .count, k .few going); short = omega (arith, b, w .place, k .behind .cells, k .short) };
       }
 

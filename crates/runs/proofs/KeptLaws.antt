@@ -10,11 +10,11 @@ use borrow.Author.Tests.{le-leb, lt-leb}
 use Rattle.scope.proofs.ListLaws.{map-step, map-end}
 use Rattle.runs.specs.Item.{Item}
 use Rattle.runs.specs.Edit.{Edit}
-use Rattle.runs.specs.Repair.{isKept, lastKept, followed, freshItems, repairedFrom, repairItems}
+use Rattle.runs.specs.Repair.{isKept, lastKept, repairedFrom, repairItems}
 use Rattle.runs.specs.Run.{Reader}
 use Rattle.runs.specs.Record.{Record, itemOf, reachAt, positionAt, unpack}
 use Rattle.runs.specs.Request.{firstFits, recordFits}
-use Rattle.runs.specs.Asking.{keptCount, KeptRows, PartStart}
+use Rattle.runs.specs.Asking.{keptCount, KeptRows, PartStart, freshBehind}
 use Rattle.runs.proofs.FittingLaws.{first-place, record-first}
 
 -- The items of some rows.
@@ -75,12 +75,6 @@ module _ {from : ℕ} {rows : List (List ℕ)} {k : ℕ} (kept : KeptRows from r
 
 -- Repair by the count: the kept rows, and behind them, if rows are left, what follows the last of them.
 module _ (tok : Reader) (e : Edit) (store part : List ℕ) where
-  -- What is read afresh behind a row, to a match or the end.
-  abbrev pub freshBehind : List Item → List ℕ → List Item
-  freshBehind old r =
-      let i = itemOf store r in
-      followed e old (freshItems tok part (i .position) (i .flags)) (i .position) (i .flags)
-
   module _ (old : List Item) where
     all-kept : (r : List ℕ) (rs : List (List ℕ)) → length rs ≡ keptCount e (itemsOf rs store) → let i = itemOf store r in repairedFrom tok e old part (itemsOf rs store) (i .position) (i .flags) ≡ itemsOf rs store
     unfolding keptCount repairedFrom
@@ -89,20 +83,20 @@ module _ (tok : Reader) (e : Edit) (store part : List ℕ) where
       where
         go : (b : Bool) → suc (length rs) ≡ cond b (suc (keptCount e (itemsOf rs store))) 0
             → (length rs ≡ keptCount e (itemsOf rs store) → let i = itemOf store s in repairedFrom tok e old part (itemsOf rs store) (i .position) (i .flags) ≡ itemsOf rs store)
-            → let i = itemOf store s in cond b (i ∷ repairedFrom tok e old part (itemsOf rs store) (i .position) (i .flags)) (freshBehind old r) ≡ i ∷ itemsOf rs store
+            → let i = itemOf store s in cond b (i ∷ repairedFrom tok e old part (itemsOf rs store) (i .position) (i .flags)) (freshBehind tok e store part old r) ≡ i ∷ itemsOf rs store
         go true g more = ap (λ is. itemOf store s ∷ is) (more (omega arith))
         go false g more = absurd (omega arith)
 
     some-kept : (r : List ℕ) (rs : List (List ℕ)) (k : ℕ) → k ≡ keptCount e (itemsOf rs store) → k < length rs
-        → let i = itemOf store r in repairedFrom tok e old part (itemsOf rs store) (i .position) (i .flags) ≡ itemsOf (take k rs) store ++ freshBehind old (getD (r ∷ rs) k [])
+        → let i = itemOf store r in repairedFrom tok e old part (itemsOf rs store) (i .position) (i .flags) ≡ itemsOf (take k rs) store ++ freshBehind tok e store part old (getD (r ∷ rs) k [])
     unfolding keptCount repairedFrom
     some-kept r [] k h l = absurd (omega arith)
     some-kept r (s ∷ rs) k h l = go (isKept e (itemOf store s)) k h l (some-kept s rs)
       where
         go : (b : Bool) (k : ℕ) → k ≡ cond b (suc (keptCount e (itemsOf rs store))) 0 → k < suc (length rs)
             → ((k : ℕ) → k ≡ keptCount e (itemsOf rs store) → k < length rs
-            → let i = itemOf store s in repairedFrom tok e old part (itemsOf rs store) (i .position) (i .flags) ≡ itemsOf (take k rs) store ++ freshBehind old (getD (s ∷ rs) k []))
-            → let i = itemOf store s in cond b (i ∷ repairedFrom tok e old part (itemsOf rs store) (i .position) (i .flags)) (freshBehind old r) ≡ itemsOf (take k (s ∷ rs)) store ++ freshBehind old (getD (r ∷ s ∷ rs) k [])
+            → let i = itemOf store s in repairedFrom tok e old part (itemsOf rs store) (i .position) (i .flags) ≡ itemsOf (take k rs) store ++ freshBehind tok e store part old (getD (s ∷ rs) k []))
+            → let i = itemOf store s in cond b (i ∷ repairedFrom tok e old part (itemsOf rs store) (i .position) (i .flags)) (freshBehind tok e store part old r) ≡ itemsOf (take k (s ∷ rs)) store ++ freshBehind tok e store part old (getD (r ∷ s ∷ rs) k [])
         go true zero g l more = absurd (omega arith)
         go true (suc k) g l more = ap (λ is. itemOf store s ∷ is) (more k (omega arith) (omega arith))
         go false zero g l more = refl

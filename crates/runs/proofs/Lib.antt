@@ -19,3 +19,5 @@ pub mod BehindLaws
 pub mod MatchLaws
 pub mod FreshLaws
 pub mod PrintLaws
+pub mod RepairCodeLaws
+pub mod RepairCallLaws

@@ -20,7 +20,7 @@ use Rattle.runs.proofs.RecordLaws.{row-count}
 use Rattle.runs.proofs.CallLaws.{passes, checked-refused, checked-made}
 use Rattle.runs.proofs.RanLaws.{stands-all}
 
-zeros-long : (n : ℕ) → length (zeros n) ≡ n
+pub zeros-long : (n : ℕ) → length (zeros n) ≡ n
 zeros-long zero = refl
 zeros-long (suc n) = ap suc (zeros-long n)
 

@@ -56,4 +56,5 @@ pub record ToMatch (tok : Reader) (e : Edit) (old : List (List ℕ)) (part : Lis
   pub all : (values : List ℕ) → followed e (map (itemOf values) old) (freshItems tok part base f) base f ≡ fresh ++ movedItems e (drop (m .old) old) values
   pub behind : Behind n c rows store fresh (m .items) (m .cells) rows′ store′
   pub within : m .old ≤ length old
+  pub short : m .cells ≤ c + length part
   pub left : m .old < length old → Left e old base n c m
