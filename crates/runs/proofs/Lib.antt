@@ -21,3 +21,4 @@ pub mod FreshLaws
 pub mod PrintLaws
 pub mod RepairCodeLaws
 pub mod RepairCallLaws
+pub mod BothCalls
