@@ -1,5 +1,5 @@
 -- Items written behind one another: none, one, and one lot behind another.
-use mathlib.Core.Path.{_≡_, refl, sym, ap, _∙_}
+use mathlib.Core.Path.{_≡_, refl, sym, ap, _∙_, subst}
 use mathlib.Core.List.{List, [], _∷_, _++_, map, append-nil, append-assoc}
 use Prim.Native.Nat.{ℕ, suc, _+_, _-_, _≤_, _<_}
 use native.Mathlib.Omega.{arith}
@@ -75,6 +75,10 @@ module _ {n c : ℕ} {rows : List (List ℕ)} {store : List ℕ} where
         as-many = b .as-many ∙ a .as-many;
         as-long = b .as-long ∙ a .as-long;
       }
+
+-- The same items by another name.
+pub behind-same : {n c : ℕ} {rows : List (List ℕ)} {store : List ℕ} {is js : List Item} → is ≡ js → {n′ c′ : ℕ} {rows′ : List (List ℕ)} {store′ : List ℕ} → Behind n c rows store is n′ c′ rows′ store′ → Behind n c rows store js n′ c′ rows′ store′
+behind-same {n} {c} {rows} {store} e {n′} {c′} {rows′} {store′} b = subst (λ is. Behind n c rows store is n′ c′ rows′ store′) e b
 
 -- An old item, moved: its row differs in three places, and its value is copied as it is.
 module _ (e : Edit) (old r : List ℕ) (fits : Movable e (length old) r) (eleven : length r ≡ 11) where

@@ -27,7 +27,7 @@ use Rattle.runs.proofs.BehindLaws.{store-behind, behind-none, behind-on
 
 module _ {tok : Reader} {part : List ℕ} {at : Progress} {rows : List (List ℕ)} {store : List ℕ} {at′ : Progress} {rows′ : List (List ℕ)} {store′ : List ℕ} (n : Next tok part at rows store at′ rows′ store′) (room : at .items < length rows) where
   row-written : getD rows′ (at .items) [] ≡ rowOf (at .cells) (n .item)
-  row-written = ap (λ rs. getD rs (at .items) []) (n .row) ∙ getD-set-same rows (at .items) (rowOf (at .cells) (n .item)) [] room
+  row-written = ap (λ rs. getD rs (at .items) []) (n .written .row) ∙ getD-set-same rows (at .items) (rowOf (at .cells) (n .item)) [] room
 
   pub place-written : getD (getD rows′ (at .items) []) positionAt 0 ≡ n .item .position
   place-written = ap (λ r. getD r positionAt 0) row-written
@@ -42,20 +42,9 @@ module _ {tok : Reader} {part : List ℕ} {at : Progress} {rows : List (List ℕ
       let a : base + i .position ≡ moved (putAt base) (i .position) = omega arith in
       let b : base + i .reach ≡ moved (putAt base) (i .reach) = omega arith in
       record {
-        item = i;
-        one = n .one;
-        position = n .position;
-        flags = n .flags;
-        ended = n .ended;
-        written = record {
-          count = n .count;
-          cells = n .cells;
-          row = row ∙ rw (row-written, place, far, a, b, n .row, set-set);
-          value = n .value;
-        };
-        short = n .short;
-        within = n .within;
-        onward = n .onward;
+        between = rows′;
+        next = n;
+        written = record { count = n .written .count; cells = n .written .cells; row = row ∙ rw (row-written, place, far, a, b, n .written .row, set-set); value = n .written .value };
       }
 
 -- The items of the part from a state on, with their places in the whole text.
@@ -127,18 +116,19 @@ module _ {tok : Reader} {e : Edit} {old : List (List ℕ)} {part : List ℕ} {ba
           → {at″ : Progress} {rows″ : List (List ℕ)} {store″ : List ℕ} → Fresh tok part base at rows′ store′ at″ rows″ store″ → at .items < length rows′ → at .cells + (length part - at .position) ≤ length store′
           → Seeking tok e old part base f n c rows store j′ at″ rows″ store″
       seeking-more {j′} s miss {at″} r room space =
-          let i = r .item in
+          let x = r .next in
+          let i = x .item in
           let is = k .fresh ++ movedItem (putAt base) i ∷ [] in
           let count : length is ≡ length (k .fresh) + 1 = length-append (k .fresh) (movedItem (putAt base) i ∷ []) in
           let z : length part + 1 - length is ≡ length part - length (k .fresh) = omega (arith, count) in
-          let y : base + at″ .position ≡ moved (putAt base) (i .position) = omega (arith, r .position) in
+          let y : base + at″ .position ≡ moved (putAt base) (i .position) = omega (arith, x .position) in
           let value : length (storeOf is) ≡ length (storeOf (k .fresh)) + length (i .value) = rw (store-behind, length-append, append-nil) in
           record {
             fresh = is;
-            all = λ values. rw (append-assoc, z, y, r .ended, r .position, r .flags, ← followed-fresh e (map (itemOf values) old) (movedItem (putAt base) i) _ (base + at .position) (flagsOf (at .flags)) (miss values)) (ahead (r .one) values);
-            behind = behind-more (k .behind) (behind-one (r .written) room (omega (arith, r .short, r .within)));
-            passed = passed-on s (omega (arith, r .position, r .short));
-            within = omega (arith, r .position, r .within);
-            few = λ g. omega (arith, count, k .few going, r .position, r .onward (sym (r .ended) ∙ g));
-            short = omega (arith, value, k .short, r .position, r .short);
+            all = λ values. rw (append-assoc, z, y, x .ended, x .position, x .flags, ← followed-fresh e (map (itemOf values) old) (movedItem (putAt base) i) _ (base + at .position) (flagsOf (at .flags)) (miss values)) (ahead (x .one) values);
+            behind = behind-more (k .behind) (behind-one (r .written) room (omega (arith, x .short, x .within)));
+            passed = passed-on s (omega (arith, x .position, x .short));
+            within = omega (arith, x .position, x .within);
+            few = λ g. omega (arith, count, k .few going, x .position, x .onward (sym (x .ended) ∙ g));
+            short = omega (arith, value, k .short, x .position, x .short);
           }

@@ -3,13 +3,13 @@ use mathlib.Core.Path.{_≡_, refl, sym, ap, _∙_, subst}
 use mathlib.Core.Bool.{Bool, true, false, cond}
 use mathlib.Core.List.{List, [], _∷_, _++_, append-nil, append-assoc}
 use Prim.Native.Nat.{ℕ, suc, _+_, _-_, _≤_, _<_}
-use native.Mathlib.Nat.{le-refl, not-suc-le-zero}
+use native.Mathlib.Nat.{le-refl}
 use native.Mathlib.Omega.{arith}
 use lib.Dec.{leb}
 use borrow.Author.Tests.{leb-true}
 use borrow.Rule.Slice.PartMut.{putMid}
-use lib.ListN.{length, take, drop, set, length-append, length-take, length-drop, length-set, drop-of-length-le}
-use lib.Seq.{take-all, take-append-seam, drop-append-seam, drop-cons, drop-drop, set-append-seam}
+use lib.ListN.{length, take, drop, set, length-drop, drop-of-length-le}
+use lib.Seq.{take-all}
 use Rattle.reading.specs.Look.{run}
 use Rattle.reading.specs.Goes.{got}
 use Rattle.reading.specs.Cells.{isOneOf}
@@ -31,11 +31,10 @@ use Rattle.runs.specs.declared.item.Item.{Item as Coded}
 use Rattle.runs.specs.declared.run.Progress.{Progress}
 use Rattle.runs.specs.Item.{Item, item, endsRun}
 use Rattle.runs.specs.Run.{Reader, placed, itemAt, items, startItem, runItems}
-use Rattle.runs.specs.Record.{rowOf, rowsFrom, storeOf}
 use Rattle.runs.specs.Coded.{cellCount, itemFrom, Small, rowFrom}
 use Rattle.runs.specs.Ran.{Next, Stands}
 use Rattle.runs.proofs.CodedLaws.{cell-count, row-is, ends-is, size-of, small-of}
-use Rattle.runs.proofs.RecordLaws.{row-count}
+use Rattle.runs.proofs.BehindLaws.{lay-long, behind-one, behind-more}
 
 -- The nine start types are 258 to 266.
 not-start : (k : ℕ) → ((isOneOf startTypes k ≡ true) → ⊥) → TokenType.YyError ≡ cond (isOneOf startTypes k) k TokenType.YyError
@@ -53,32 +52,6 @@ start-in k h l =
     let g : isOneOf startTypes k ≡ true = rw e at (below (λ j. isOneOf startTypes (258 + j)) 9 refl (k - 258) (omega arith)) in
     rw g
 
--- One row and one value behind those at the front.
-row-snoc : (v o : List (List ℕ)) (x : List ℕ) → length v < length o → set (front v o) (length v) x ≡ front (v ++ x ∷ []) o
-row-snoc v o x h =
-    let n : length (v ++ x ∷ []) ≡ suc (length v) = omega (arith, length-append v (x ∷ [])) in
-    rw (drop-cons o (length v) [] h, set-append-seam, n, append-assoc)
-
-value-snoc : (w v o : List ℕ) → take (length w) (front w o) ++ front v (drop (length w) (front w o)) ≡ front (w ++ v) o
-value-snoc w v o = rw (take-append-seam, drop-append-seam, drop-drop, length-append, append-assoc)
-
-rows-snoc : (at : ℕ) (is : List Item) (i : Item) → rowsFrom at (is ++ i ∷ []) ≡ rowsFrom at is ++ rowOf (at + length (storeOf is)) i ∷ []
-rows-snoc at [] i = let z : at + 0 ≡ at = omega arith in rw z
-rows-snoc at (j ∷ is) i =
-    let z : at + length (j .value) + length (storeOf is) ≡ at + length (j .value ++ storeOf is) = omega (arith, length-append (j .value) (storeOf is)) in
-    ap (λ rs. rowOf at j ∷ rs) (rw (← z) (rows-snoc (at + length (j .value)) is i))
-
-rows-more : (is : List Item) (i : Item) → rowsFrom 0 (is ++ i ∷ []) ≡ rowsFrom 0 is ++ rowOf (length (storeOf is)) i ∷ []
-rows-more is i = let z : 0 + length (storeOf is) ≡ length (storeOf is) = omega arith in rw z at (rows-snoc 0 is i)
-
-store-snoc : (is : List Item) (i : Item) → storeOf (is ++ i ∷ []) ≡ storeOf is ++ i .value
-store-snoc [] i = append-nil _
-store-snoc (j ∷ is) i = ap (λ s. j .value ++ s) (store-snoc is i) ∙ sym (append-assoc (j .value) (storeOf is) (i .value))
-
-first-row : (o : List (List ℕ)) (x : List ℕ) → 0 < length o → set o 0 x ≡ front (x ∷ []) o
-first-row [] x h = absurd (not-suc-le-zero h)
-first-row (y ∷ o) x h = refl
-
 module _ {k n : ℕ} {f : Flags} {c : Coded} {rows rows′ : List (List ℕ)} {ended : Bool} (isStart : n ≡ cond (isOneOf startTypes k) k TokenType.YyError) (isItem : c ≡ itemFrom (Plain n) 0 f 0) where
   pub stands-start : 0 < length rows → rows′ ≡ set rows 0 (rowFrom 0 c) → ended ≡ isLast (c .«is_refusal») (c .number) → (tok : Reader) (t store : List ℕ)
       → Stands tok k (flagsOf f) t rows store (record { position = 0; flags = f; items = 1; cells = 0; ended = ended }) rows′ store
@@ -87,15 +60,10 @@ module _ {k n : ℕ} {f : Flags} {c : Coded} {rows rows′ : List (List ℕ)} {e
       record {
         sofar = startItem k (flagsOf f) ∷ [];
         all = rw (e, isItem, isStart, z);
-        count = refl;
-        cells = refl;
-        laid = rw (r, isItem, isStart) (first-row rows _ room);
-        stored = refl;
+        behind = behind-one {i = startItem k (flagsOf f)} (record { count = refl; cells = refl; row = rw (r, isItem, isStart); value = refl }) room (omega arith);
         within = omega arith;
         short = omega arith;
         few = λ _. omega arith;
-        as-many = ap length r ∙ length-set rows 0 (rowFrom 0 c);
-        as-long = refl;
       }
 
 pub record Found (n p : ℕ) (r : Outcome) : Type 0 where
@@ -152,11 +120,13 @@ module _ (isName : List ℕ → Bool) (t : List ℕ) (at : Progress) (store : Li
         one = taken-item isName t (at .position) (flagsOf (at .flags)) w limit within;
         position = refl;
         flags = refl;
-        count = refl;
-        cells = ap (λ x. at .cells + x) n;
         ended = last ∙ ap (λ x. isLast (x .«is_refusal») (x .number)) k ∙ ends-is p (r .flags) q (w .read) (s .formed);
-        row = row ∙ ap (λ x. set rows (at .items) x) (ap (rowFrom (at .cells)) k ∙ row-is p (r .flags) q (at .cells) (w .read) (s .formed));
-        value = lent-back store (cellsOf (w .read)) (at .cells) (w .left);
+        written = record {
+          count = refl;
+          cells = ap (λ x. at .cells + x) n;
+          row = row ∙ ap (λ x. set rows (at .items) x) (ap (rowFrom (at .cells)) k ∙ row-is p (r .flags) q (at .cells) (w .read) (s .formed));
+          value = lent-back store (cellsOf (w .read)) (at .cells) (w .left);
+        };
         short = omega (arith, s .short);
         within = omega (arith, s .inText);
         far = found isName t (at .position) (flagsOf (at .flags)) w limit within .far;
@@ -165,7 +135,7 @@ module _ (isName : List ℕ → Bool) (t : List ℕ) (at : Progress) (store : Li
 
 pub next-long : {tok : Reader} {t : List ℕ} {at : Progress} {rows : List (List ℕ)} {store : List ℕ} {at′ : Progress} {rows′ : List (List ℕ)} {store′ : List ℕ} → Next tok t at rows store at′ rows′ store′
     → at .cells + (length t - at .position) ≤ length store → length store′ ≡ length store
-next-long n h = rw (n .value) (simp (length-append, length-take, length-drop) (omega (arith, n .short, n .within)))
+next-long {at = at} {store = store} n h = ap length (n .written .value) ∙ lay-long (at .cells) (n .item .value) store (omega (arith, n .short, n .within))
 
 pub items-step : (tok : Reader) (n : ℕ) (t : List ℕ) (p : ℕ) (f : spec.Flags) {i : Item} → i ≡ itemAt tok t p f → items tok (suc n) t p f ≡ i ∷ cond (endsRun i) [] (items tok n t (i .position) (i .flags))
 unfolding items
@@ -177,23 +147,16 @@ module _ {tok : Reader} {k : ℕ} {f : spec.Flags} {t : List ℕ} {rows : List (
   stands-more {at″} {rows″} {store″} n going room long =
       let i = n .item in
       let few = s .few going in
-      let value = n .short in
-      let z : length t + 2 - at .items ≡ suc (length t + 2 - at″ .items) = omega (arith, n .count, s .within) in
+      let z : length t + 2 - at .items ≡ suc (length t + 2 - at″ .items) = omega (arith, n .written .count, s .within) in
       let h : s .sofar ++ items tok (suc (length t + 2 - at″ .items)) t (at .position) (flagsOf (at .flags)) ≡ runItems tok k f t = rw (going, z) at (s .all) in
       let g : s .sofar ++ (i ∷ cond (endsRun i) [] (items tok (length t + 2 - at″ .items) t (i .position) (i .flags))) ≡ runItems tok k f t = rw (items-step tok (length t + 2 - at″ .items) t (at .position) (flagsOf (at .flags)) (n .one)) at h in
-      let c : at .items ≡ length (rowsFrom 0 (s .sofar)) = s .count ∙ sym (row-count 0 (s .sofar)) in
       record {
         sofar = s .sofar ++ i ∷ [];
         all = rw (append-assoc, n .ended, n .position, n .flags) g;
-        count = omega (arith, n .count, s .count, length-append (s .sofar) (i ∷ []));
-        cells = rw (n .cells, store-snoc, length-append, s .cells);
-        laid = rw (n .row, s .laid, s .cells, c, rows-more) (row-snoc (rowsFrom 0 (s .sofar)) rows _ (omega arith));
-        stored = rw (n .value, s .stored, s .cells, store-snoc) (value-snoc (storeOf (s .sofar)) (i .value) store);
+        behind = behind-more (s .behind) (behind-one (n .written) (omega (arith, s .within, s .behind .as-many)) (omega (arith, n .short, n .within, s .short, s .behind .as-long)));
         within = rw (n .position) (n .within);
-        short = omega (arith, n .cells, n .position, s .short);
-        few = λ e. omega (arith, n .count, n .position, n .onward (sym (n .ended) ∙ e));
-        as-many = ap length (n .row) ∙ length-set rows′ (at .items) _ ∙ s .as-many;
-        as-long = next-long n (omega (arith, s .short, s .as-long)) ∙ s .as-long;
+        short = omega (arith, n .written .cells, n .position, n .short, s .short);
+        few = λ e. omega (arith, n .written .count, n .position, n .onward (sym (n .ended) ∙ e));
       }
 
   -- Behind the item that ends the run.

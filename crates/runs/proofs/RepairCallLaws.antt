@@ -3,7 +3,6 @@ use mathlib.Core.Path.{_≡_, ap, _∙_}
 use mathlib.Core.Bool.{true, false}
 use mathlib.Core.List.{List}
 use Prim.Native.Nat.{ℕ, _≤_, _<_}
-use native.Mathlib.Omega.{arith}
 use lib.ListN.{length}
 use Rattle.reading.specs.Slices.{zeros}
 use Rattle.text.specs.Refusals.{brokenRequest}
@@ -13,16 +12,15 @@ use Rattle.lexer.specs.Token.{readToken}
 use Rattle.runs.specs.declared.call.Made.the-variants as variant
 use Rattle.runs.specs.Item.{Item}
 use Rattle.runs.specs.Repair.{repairItems}
-use Rattle.runs.specs.Record.{Record, rowsFrom, storeOf, unpack, repair}
+use Rattle.runs.specs.Record.{Record, unpack, repair}
 use Rattle.runs.specs.Request.{Request, newLength, isBrokenRequest}
 use Rattle.runs.specs.Asking.{Askable}
 use Rattle.runs.specs.Calls.{Room, made, refused, repairCall}
 use Rattle.runs.specs.Ran.{refusal}
 use Rattle.runs.specs.Copied.{Behind}
 use Rattle.runs.specs.Repaired.{Repaired}
-use Rattle.runs.proofs.RecordLaws.{row-count}
 use Rattle.runs.proofs.CallLaws.{Passes, passes, checked-refused, checked-made}
-use Rattle.runs.proofs.RunCallLaws.{zeros-long}
+use Rattle.runs.proofs.RunCallLaws.{zeros-long, refused-so, made-so}
 
 module _ (l : Lent) (q : Request) (rows : List (List ℕ)) (store scratch : List ℕ) {clean : List ℕ} (isClean : clean ≡ zeros (length scratch)) where
   abbrev room : Room
@@ -38,7 +36,8 @@ module _ (l : Lent) (q : Request) (rows : List (List ℕ)) (store scratch : List
   pub repair-broken : isBrokenRequest q ≡ true → Repaired l q room (variant.Refused brokenRequest) (record { rows = rows; store = store; scratch = clean })
   repair-broken h =
       let e : repairCall l room q ≡ refused brokenRequest = rw h in
-      record { answer = rw e; left = rw (e, isClean) }
+      let w = refused-so rows store scratch isClean e in
+      record { answer = w .0; left = w .1 }
 
   module _ (whole : isBrokenRequest q ≡ false) {m : ℕ} (checks : m ≡ refusal l (newLength q) (length rows) (length store) (length clean)) where
     same-scratch : length clean ≡ length scratch
@@ -50,7 +49,8 @@ module _ (l : Lent) (q : Request) (rows : List (List ℕ)) (store scratch : List
     pub repair-refused : 0 < m → Repaired l q room (variant.Refused m) (record { rows = rows; store = store; scratch = clean })
     repair-refused h =
         let e : repairCall l room q ≡ refused m = rw whole (checked-refused l room (newLength q) new checked h) in
-        record { answer = rw e; left = rw (e, isClean) }
+        let w = refused-so rows store scratch isClean e in
+        record { answer = w .0; left = w .1 }
 
     module _ (h : m ≤ 0) where
       passed : Passes l (newLength q) (length rows) (length store) (length clean)
@@ -64,8 +64,7 @@ module _ (l : Lent) (q : Request) (rows : List (List ℕ)) (store scratch : List
 
       pub repair-made : {n c : ℕ} {rows′ : List (List ℕ)} {store′ left : List ℕ} → Behind 0 0 rows store repaired n c rows′ store′ → left ≡ clean
           → Repaired l q room (variant.Record n c) (record { rows = rows′; store = store′; scratch = left })
-      repair-made {n} {c} b same =
+      repair-made b same =
           let e : repairCall l room q ≡ made new = rw whole (checked-made l room (newLength q) new (passes l (newLength q) (length rows) (length store) (length scratch) m checked h)) in
-          let x : n ≡ length (rowsFrom 0 repaired) = omega (arith, b .count, row-count 0 repaired) in
-          let y : c ≡ length (storeOf repaired) = omega (arith, b .cells) in
-          record { answer = rw (e, x, y); left = rw (e, b .laid, b .stored, same, isClean) }
+          let w = made-so rows store scratch isClean repaired e b same in
+          record { answer = w .0; left = w .1 }

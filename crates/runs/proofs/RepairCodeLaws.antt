@@ -1,5 +1,5 @@
 -- Repair in code: an accepted request bounds the kept rows, the fresh ones and the old rest, and the three lots are the repaired items.
-use mathlib.Core.Path.{_≡_, refl, sym, ap, _∙_, subst}
+use mathlib.Core.Path.{_≡_, refl, sym, ap, _∙_}
 use mathlib.Core.Bool.{Bool, true, false, _||_, not, false≢true}
 use mathlib.Core.List.{List, [], _∷_, _++_, map}
 use Prim.Native.Nat.{ℕ, zero, suc, _+_, _-_, _≤_, _<_}
@@ -240,9 +240,6 @@ module _ {rows : List (List ℕ)} {store : List ℕ} {e : Edit} {part : List ℕ
     rest-all last p g b =
         let z : t .fresh ++ movedItems e (slice (o .old) (length rows) rows) store ≡ freshBehind tok e store part (itemsOf rows store) (getD rows last []) = rw (rest-is, ← p, ← g) (sym (t .all store)) in
         rw z at (behind-more (t .behind) b)
-
-pub behind-same : {n c : ℕ} {rows : List (List ℕ)} {store : List ℕ} {is js : List Item} → is ≡ js → {n′ c′ : ℕ} {rows′ : List (List ℕ)} {store′ : List ℕ} → Behind n c rows store is n′ c′ rows′ store′ → Behind n c rows store js n′ c′ rows′ store′
-behind-same {n} {c} {rows} {store} e {n′} {c′} {rows′} {store′} b = subst (λ is. Behind n c rows store is n′ c′ rows′ store′) e b
 
 pub askable-same : {rows : List (List ℕ)} {store : List ℕ} {e : Edit} {part : List ℕ} {n m k n′ m′ k′ : ℕ} → Askable rows store e part n m k → n′ ≡ n → m′ ≡ m → k′ ≡ k → Askable rows store e part n′ m′ k′
 askable-same a x y z = record { size = a .size; whole = a .whole; limit = a .limit; rows-long = omega (arith, x, a .rows-long); store-long = omega (arith, y, a .store-long); scratch-long = omega (arith, z, a .scratch-long) }

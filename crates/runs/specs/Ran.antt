@@ -4,8 +4,7 @@ use mathlib.Core.Bool.{false, cond, _&&_}
 use mathlib.Core.List.{List, [], _++_}
 use Prim.Native.Nat.{ℕ, _+_, _-_, _*_, _≤_}
 use lib.Dec.{leb, ltb}
-use lib.ListN.{length, take, drop, set}
-use Rattle.reading.specs.Slices.{front}
+use lib.ListN.{length}
 use Rattle.text.specs.Limits.{maxChars}
 use Rattle.text.specs.Refusals.{tooLong, shortSlice, brokenScope}
 use Rattle.scope.specs.Lent.{Lent, isBroken}
@@ -16,7 +15,7 @@ use Rattle.runs.specs.declared.call.Made.the-variants as variant
 use Rattle.runs.specs.declared.run.Progress.{Progress}
 use Rattle.runs.specs.Item.{Item, endsRun}
 use Rattle.runs.specs.Run.{Reader, itemAt, items, runItems}
-use Rattle.runs.specs.Record.{rowOf, rowsFrom, storeOf}
+use Rattle.runs.specs.Copied.{Copied, Behind}
 use Rattle.runs.specs.Calls.{Room, Answer, made, refused, roomAfter, runCall}
 
 -- A record as the code answers it: the number of its rows and of its store's cells.
@@ -42,11 +41,8 @@ pub record Next (tok : Reader) (t : List ℕ) (at : Progress) (rows : List (List
   pub one : item ≡ itemAt tok t (at .position) (flagsOf (at .flags))
   pub position : at′ .position ≡ item .position
   pub flags : flagsOf (at′ .flags) ≡ item .flags
-  pub count : at′ .items ≡ at .items + 1
-  pub cells : at′ .cells ≡ at .cells + length (item .value)
   pub ended : at′ .ended ≡ endsRun item
-  pub row : rows′ ≡ set rows (at .items) (rowOf (at .cells) item)
-  pub value : store′ ≡ take (at .cells) store ++ front (item .value) (drop (at .cells) store)
+  pub written : Copied item (at .items) (at .cells) rows store (at′ .items) (at′ .cells) rows′ store′
   pub short : length (item .value) + at .position ≤ item .position
   pub within : item .position ≤ length t
   pub far : item .reach ≤ length t + 12
@@ -56,12 +52,7 @@ pub record Next (tok : Reader) (t : List ℕ) (at : Progress) (rows : List (List
 pub record Stands (tok : Reader) (k : ℕ) (f : Flags) (t : List ℕ) (rows : List (List ℕ)) (store : List ℕ) (at : Progress) (rows′ : List (List ℕ)) (store′ : List ℕ) : Type 0 where
   pub sofar : List Item
   pub all : sofar ++ cond (at .ended) [] (items tok (length t + 2 - at .items) t (at .position) (flagsOf (at .flags))) ≡ runItems tok k f t
-  pub count : at .items ≡ length sofar
-  pub cells : at .cells ≡ length (storeOf sofar)
-  pub laid : rows′ ≡ front (rowsFrom 0 sofar) rows
-  pub stored : store′ ≡ front (storeOf sofar) store
+  pub behind : Behind 0 0 rows store sofar (at .items) (at .cells) rows′ store′
   pub within : at .position ≤ length t
   pub short : at .cells ≤ at .position
   pub few : at .ended ≡ false → at .items ≤ at .position + 1
-  pub as-many : length rows′ ≡ length rows
-  pub as-long : length store′ ≡ length store

@@ -1,23 +1,21 @@
 -- What the code of the call `repair` answers and leaves, and how its fresh items are written.
 use mathlib.Core.Path.{_≡_}
-use mathlib.Core.Bool.{false}
 use mathlib.Core.List.{List, _++_, map}
 use Prim.Native.Nat.{ℕ, _+_, _≤_, _<_}
 use lib.ListN.{length, drop}
 use Rattle.scope.specs.Lent.{Lent}
 use Rattle.lexer.specs.Flags.{Flags}
-use Rattle.lexer.specs.FlagsOf.{flagsOf}
 use Rattle.runs.specs.declared.call.Made.{Made}
 use Rattle.runs.specs.declared.run.Progress.{Progress}
 use Rattle.runs.specs.declared.repair.Matched.{Matched}
-use Rattle.runs.specs.Item.{Item, endsRun}
-use Rattle.runs.specs.Run.{Reader, itemAt}
+use Rattle.runs.specs.Item.{Item}
+use Rattle.runs.specs.Run.{Reader}
 use Rattle.runs.specs.Edit.{Edit, moved, movedItem}
 use Rattle.runs.specs.Repair.{followed, freshItems}
 use Rattle.runs.specs.Record.{itemOf}
 use Rattle.runs.specs.Request.{Request}
 use Rattle.runs.specs.Calls.{Room, roomAfter, repairCall}
-use Rattle.runs.specs.Ran.{answerOf}
+use Rattle.runs.specs.Ran.{answerOf, Next}
 use Rattle.runs.specs.Copied.{movedItems, Copied, Behind}
 use Rattle.runs.specs.Match.{placeAt}
 
@@ -32,15 +30,9 @@ putAt base = record { from = 0; to = 0; size = base }
 
 -- The next item of a part that begins at `base` is read and written, with its place in the whole text.
 pub record Fresh (tok : Reader) (part : List ℕ) (base : ℕ) (at : Progress) (rows : List (List ℕ)) (store : List ℕ) (at′ : Progress) (rows′ : List (List ℕ)) (store′ : List ℕ) : Type 0 where
-  pub item : Item
-  pub one : item ≡ itemAt tok part (at .position) (flagsOf (at .flags))
-  pub position : at′ .position ≡ item .position
-  pub flags : flagsOf (at′ .flags) ≡ item .flags
-  pub ended : at′ .ended ≡ endsRun item
-  pub written : Copied (movedItem (putAt base) item) (at .items) (at .cells) rows store (at′ .items) (at′ .cells) rows′ store′
-  pub short : length (item .value) + at .position ≤ item .position
-  pub within : item .position ≤ length part
-  pub onward : endsRun item ≡ false → at .position + 1 ≤ item .position
+  pub between : List (List ℕ)
+  pub next : Next tok part at rows store at′ between store′
+  pub written : Copied (movedItem (putAt base) (next .item)) (at .items) (at .cells) rows store (at′ .items) (at′ .cells) rows′ store′
 
 -- Old rows from m .old on follow behind a match: the row before them, and bounds by its place moved.
 pub record Left (e : Edit) (old : List (List ℕ)) (base n c : ℕ) (m : Matched) : Type 0 where

@@ -1,8 +1,8 @@
 -- The kept items, and behind them, if rows are left, what is read afresh.
 use native.Mathlib.Omega.{arith}
 use mathlib.Core.Path.{refl}
-use Rattle.runs.proofs.BehindLaws.{behind-more}
-use Rattle.runs.proofs.RepairCodeLaws.{behind-same, askable-same, kept-place, kept-copyable, kept-rows, kept-few, kept-cells, kept-count, items-all, items-some}
+use Rattle.runs.proofs.BehindLaws.{behind-same, behind-more}
+use Rattle.runs.proofs.RepairCodeLaws.{askable-same, kept-place, kept-copyable, kept-rows, kept-few, kept-cells, kept-count, items-all, items-some}
 use borrow.Author.Needs.{needs}
 use Rattle.runs.proofs.repair.put_items.Statement.{statement}
 use Rattle.runs.proofs.repair.put_items.Tie as tie

@@ -4,7 +4,8 @@ use mathlib.Core.Path.{ap}
 use mathlib.Core.List.{map}
 use lib.ListN.{length, take}
 use Rattle.runs.specs.Record.{itemOf, storeOf}
-use Rattle.runs.proofs.RepairCodeLaws.{moved-none, behind-same}
+use Rattle.runs.proofs.RepairCodeLaws.{moved-none}
+use Rattle.runs.proofs.BehindLaws.{behind-same}
 use borrow.Author.Needs.{needs}
 use Rattle.runs.proofs.repair.put_kept.Statement.{statement}
 use Rattle.runs.proofs.repair.put_kept.Tie as tie

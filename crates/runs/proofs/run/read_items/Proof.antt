@@ -40,7 +40,7 @@ read-item-requires c κs =
     let l = c .before .before .before .before .before in
     let s = l .loop .inv .0 .so (c .before .before .before .before .before .before .before .put-start .ensures _ _ _) (k .pre .1) (k .pre .2) in
     let f = s .few (not-true _ (c .before .before .before .if1 .taken)) in
-    (k .pre .0, omega (arith, s .as-long, s .short, k .pre .2), omega (arith, ap length (l .loop .inv .1), k .pre .3), s .within, omega (arith, s .short, s .within, k .pre .0), omega (arith, f, s .within, s .as-many, k .pre .1), omega (arith, f, s .within, k .pre .0), k .pre .4, subst Clear (sym (l .loop .inv .1)) (k .pre .5), c .before .before .before .before .before .before .before .before .before .longest-key .ensures)
+    (k .pre .0, omega (arith, s .behind .as-long, s .short, k .pre .2), omega (arith, ap length (l .loop .inv .1), k .pre .3), s .within, omega (arith, s .short, s .within, k .pre .0), omega (arith, f, s .within, s .behind .as-many, k .pre .1), omega (arith, f, s .within, k .pre .0), k .pre .4, subst Clear (sym (l .loop .inv .1)) (k .pre .5), c .before .before .before .before .before .before .before .before .before .longest-key .ensures)
 
 loop-less : tie.Need-loop-less Inv-loop μ-loop
 loop-less c =
@@ -48,7 +48,7 @@ loop-less c =
     let l = c .before .before .before .before .before .before .before .before .before .before .before in
     let s = l .loop .inv .0 .so (c .before .before .before .before .before .before .before .before .before .before .before .before .before .put-start .ensures _ _ _) (k .pre .1) (k .pre .2) in
     let f = s .few (not-true _ (c .before .before .before .before .before .before .before .before .before .if1 .taken)) in
-    omega (arith, f, s .within, c .before .before .before .before .before .read-item .ensures .0 .count)
+    omega (arith, f, s .within, c .before .before .before .before .before .read-item .ensures .0 .written .count)
 
 loop-again : tie.Need-loop-again Inv-loop μ-loop
 loop-again c = (onward-more (c .before .before .before .before .before .before .before .before .before .before .before .loop .inv .0) (c .before .before .before .before .before .read-item .ensures .0) (not-true _ (c .before .before .before .before .before .before .before .before .before .if1 .taken)), c .before .before .before .before .before .read-item .ensures .1 ∙ c .before .before .before .before .before .before .before .before .before .before .before .loop .inv .1)
@@ -56,12 +56,12 @@ loop-again c = (onward-more (c .before .before .before .before .before .before .
 same-length : tie.Need-same-length Inv-loop μ-loop
 same-length c =
     let k = c .before .before .before .before .before .before .before .before .before .before in
-    c .before .before .loop .inv .0 .so (c .before .before .before .before .put-start .ensures _ _ _) (k .pre .1) (k .pre .2) .as-many
+    c .before .before .loop .inv .0 .so (c .before .before .before .before .put-start .ensures _ _ _) (k .pre .1) (k .pre .2) .behind .as-many
 
 same-length-2 : tie.Need-same-length-2 Inv-loop μ-loop
 same-length-2 c =
     let k = c .before .before .before .before .before .before .before .before .before .before in
-    c .before .before .loop .inv .0 .so (c .before .before .before .before .put-start .ensures _ _ _) (k .pre .1) (k .pre .2) .as-long
+    c .before .before .loop .inv .0 .so (c .before .before .before .before .put-start .ensures _ _ _) (k .pre .1) (k .pre .2) .behind .as-long
 
 same-length-3 : tie.Need-same-length-3 Inv-loop μ-loop
 same-length-3 c = ap length (c .before .before .loop .inv .1)
