@@ -106,7 +106,7 @@ pub record Copying (e : Edit) (old : List (List ℕ)) (values : List ℕ) (first
   pub begun : first ≤ i
   pub within : i ≤ end
 
-pub moved-count : (e : Edit) (rs : List (List ℕ)) (values : List ℕ) → length (movedItems e rs values) ≡ length rs
+moved-count : (e : Edit) (rs : List (List ℕ)) (values : List ℕ) → length (movedItems e rs values) ≡ length rs
 moved-count e rs values = length-map (map (itemOf values) rs) (movedItem e) ∙ length-map rs (itemOf values)
 
 module _ {e : Edit} {old : List (List ℕ)} {values : List ℕ} {first end : ℕ} {n₀ c₀ : ℕ} {rows₀ : List (List ℕ)} {store₀ : List ℕ} where

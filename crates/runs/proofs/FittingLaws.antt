@@ -1,19 +1,15 @@
--- What is known of the rows of an accepted record: they are items, their values lie one after the other, and positions bound their number and their cells.
-use mathlib.Core.Path.{_≡_, refl, sym, ap, _∙_}
+-- What is known of the rows of an accepted record: they are items, and positions bound their number and their value cells.
+use mathlib.Core.Path.{_≡_, refl}
 use mathlib.Core.Bool.{Bool, true, false, cond, _&&_, false≢true}
-use mathlib.Core.List.{List, [], _∷_, _++_, map}
+use mathlib.Core.List.{List, [], _∷_}
 use Prim.Native.Nat.{ℕ, zero, suc, _+_, _≤_, _<_}
-use native.Mathlib.Nat.{zero-add}
 use native.Mathlib.Omega.{arith}
 use lib.Dec.{leb, ltb, eqb}
-use lib.ListN.{length, getD, set, take, drop}
-use lib.Seq.{take-add, drop-drop}
+use lib.ListN.{length, getD, drop}
 use borrow.Author.Tests.{leb-true, ltb-true, eqb-true}
 use Rattle.reading.proofs.Test.{both}
-use Rattle.runs.specs.Edit.{Edit, moved, movedItem}
-use Rattle.runs.specs.Record.{Record, rowOf, itemOf, storeOf, positionAt, reachAt, startAt, lengthAt}
+use Rattle.runs.specs.Record.{Record, positionAt, reachAt, startAt, lengthAt}
 use Rattle.runs.specs.Request.{isRow, rowFits, rowsFit, firstFits, recordFits}
-use Rattle.runs.proofs.RecordLaws.{row-again}
 use Rattle.runs.proofs.RequestCodeLaws.{ends}
 
 -- What a row that fits is known to be.
@@ -119,79 +115,29 @@ cellsIn (r ∷ rs) = getD r lengthAt 0 + cellsIn rs
 pub record Bounded (n m at p : ℕ) (rs : List (List ℕ)) : Type 0 where
   pub count : p + length rs ≤ n + 1
   pub cells : p + cellsIn rs ≤ n
-  pub used : at + cellsIn rs ≤ m
 
 pub bounded : (n m at p : ℕ) (rs : List (List ℕ)) → rowsFit n m at p rs ≡ true → Bounded n m at p rs
 unfolding rowsFit
 bounded n m at p [] h = absurd (false≢true h)
 bounded n m at p (r ∷ []) h =
     let f = first-of n m at p r [] h in
-    record { count = omega (arith, f .behind, f .inText); cells = omega (arith, f .behind, f .inText); used = omega (arith, f .inStore) }
+    record { count = omega (arith, f .behind, f .inText); cells = omega (arith, f .behind, f .inText) }
 bounded n m at p (r ∷ s ∷ rs) h =
     let f = first-of n m at p r (s ∷ rs) h in
     let g = followed-by n m at p r s rs h in
     let b = bounded n m (at + getD r lengthAt 0) (getD r positionAt 0) (s ∷ rs) (g .1) in
-    record { count = omega (arith, g .0, b .count); cells = omega (arith, f .behind, b .cells); used = omega (arith, b .used) }
-
-one-stored : (r : List ℕ) (at : ℕ) (store : List ℕ) → getD r startAt 0 ≡ at → storeOf (map (itemOf store) (r ∷ [])) ≡ take (cellsIn (r ∷ [])) (drop at store)
-one-stored r at store e = ap (λ s. take (getD r lengthAt 0) (drop s store) ++ []) e ∙ sym (take-add (getD r lengthAt 0) 0 (drop at store))
-
--- The values of the first i of them are one part of the store, and the next begins behind it.
-module _ (n : ℕ) (store : List ℕ) where
-  pub stored : (at p : ℕ) (rs : List (List ℕ)) → rowsFit n (length store) at p rs ≡ true → (i : ℕ) → storeOf (map (itemOf store) (take i rs)) ≡ take (cellsIn (take i rs)) (drop at store)
-  unfolding rowsFit
-  stored at p rs h zero = refl
-  stored at p [] h (suc i) = refl
-  stored at p (r ∷ []) h (suc zero) = one-stored r at store (first-of n (length store) at p r [] h .start)
-  stored at p (r ∷ []) h (suc (suc i)) = one-stored r at store (first-of n (length store) at p r [] h .start)
-  stored at p (r ∷ s ∷ rs) h (suc i) =
-      let f = first-of n (length store) at p r (s ∷ rs) h in
-      let g = followed-by n (length store) at p r s rs h in
-      let t = take i (s ∷ rs) in
-      ap (λ u. take (getD r lengthAt 0) (drop u store) ++ storeOf (map (itemOf store) t)) (f .start)
-      ∙ ap (λ v. take (getD r lengthAt 0) (drop at store) ++ v) (stored (at + getD r lengthAt 0) (getD r positionAt 0) (s ∷ rs) (g .1) i ∙ ap (take (cellsIn t)) (sym (drop-drop (getD r lengthAt 0) at store)))
-      ∙ sym (take-add (getD r lengthAt 0) (cellsIn t) (drop at store))
+    record { count = omega (arith, g .0, b .count); cells = omega (arith, f .behind, b .cells) }
 
 module _ (n m : ℕ) where
-  pub starts : (at p : ℕ) (rs : List (List ℕ)) → rowsFit n m at p rs ≡ true → (i : ℕ) → i < length rs → getD (getD rs i []) startAt 0 ≡ at + cellsIn (take i rs)
-  starts at p [] h i l = absurd (omega arith)
-  starts at p (r ∷ rs) h zero l = omega (arith, first-of n m at p r rs h .start)
-  starts at p (r ∷ []) h (suc i) l = absurd (omega arith)
-  starts at p (r ∷ s ∷ rs) h (suc i) l = omega (arith, starts (at + getD r lengthAt 0) (getD r positionAt 0) (s ∷ rs) (followed-by n m at p r s rs h .1) i (omega arith))
-
   -- Each row fits where it starts.
-  pub fits-at : (at p : ℕ) (rs : List (List ℕ)) → rowsFit n m at p rs ≡ true → (i : ℕ) → i < length rs → Fitting n m (getD (getD rs i []) startAt 0) 0 (getD rs i [])
+  fits-at : (at p : ℕ) (rs : List (List ℕ)) → rowsFit n m at p rs ≡ true → (i : ℕ) → i < length rs → Fitting n m (getD (getD rs i []) startAt 0) 0 (getD rs i [])
   fits-at at p [] h i l = absurd (omega arith)
   fits-at at p (r ∷ rs) h zero l = alone (first-of n m at p r rs h)
   fits-at at p (r ∷ []) h (suc i) l = absurd (omega arith)
   fits-at at p (r ∷ s ∷ rs) h (suc i) l = fits-at (at + getD r lengthAt 0) (getD r positionAt 0) (s ∷ rs) (followed-by n m at p r s rs h .1) i (omega arith)
 
--- The same of a whole record, whose first row has no value.
+-- The same of a whole record.
 module _ (n : ℕ) (r : Record) (fits : recordFits n r ≡ true) where
-  pub record-stored : (i : ℕ) → storeOf (map (itemOf (r .store)) (take i (r .rows))) ≡ take (cellsIn (take i (r .rows))) (r .store)
-  record-stored i = go (r .rows) (record-first n r fits) i
-    where
-      go : (rs : List (List ℕ)) → firstFits n (length (r .store)) rs ≡ true → (i : ℕ) → storeOf (map (itemOf (r .store)) (take i rs)) ≡ take (cellsIn (take i rs)) (r .store)
-      go rs h zero = refl
-      go [] h (suc i) = refl
-      go (s ∷ []) h (suc zero) = one-stored s 0 (r .store) (first-place n (length (r .store)) s [] h .fits .start)
-      go (s ∷ []) h (suc (suc i)) = one-stored s 0 (r .store) (first-place n (length (r .store)) s [] h .fits .start)
-      go (s ∷ t ∷ rs) h (suc i) =
-          let f = first-place n (length (r .store)) s (t ∷ rs) h in
-          let z : getD s lengthAt 0 ≡ 0 = omega (arith, f .fits .behind, f .place) in
-          rw (z, zero-add) (stored n (r .store) 0 0 (t ∷ rs) (first-behind n (length (r .store)) s t rs h) i)
-
-  pub record-starts : (i : ℕ) → i < length (r .rows) → getD (getD (r .rows) i []) startAt 0 ≡ cellsIn (take i (r .rows))
-  record-starts i l = go (r .rows) (record-first n r fits) i l
-    where
-      go : (rs : List (List ℕ)) → firstFits n (length (r .store)) rs ≡ true → (i : ℕ) → i < length rs → getD (getD rs i []) startAt 0 ≡ cellsIn (take i rs)
-      go [] h i l = absurd (omega arith)
-      go (s ∷ rs) h zero l = first-place n (length (r .store)) s rs h .fits .start
-      go (s ∷ []) h (suc i) l = absurd (omega arith)
-      go (s ∷ t ∷ rs) h (suc i) l =
-          let f = first-place n (length (r .store)) s (t ∷ rs) h in
-          omega (arith, f .fits .behind, f .place, starts n (length (r .store)) 0 0 (t ∷ rs) (first-behind n (length (r .store)) s t rs h) i (omega arith))
-
   pub record-row : (i : ℕ) → i < length (r .rows) → Fitting n (length (r .store)) (getD (getD (r .rows) i []) startAt 0) 0 (getD (r .rows) i [])
   record-row i l = go (r .rows) (record-first n r fits) i l
     where
@@ -200,16 +146,3 @@ module _ (n : ℕ) (r : Record) (fits : recordFits n r ≡ true) where
       go (s ∷ rs) h zero l = alone (first-place n (length (r .store)) s rs h .fits)
       go (s ∷ []) h (suc i) l = absurd (omega arith)
       go (s ∷ t ∷ rs) h (suc i) l = fits-at n (length (r .store)) 0 0 (t ∷ rs) (first-behind n (length (r .store)) s t rs h) i (omega arith)
-
-  -- A row of eleven is written again as it was read.
-  pub record-again : (i : ℕ) → i < length (r .rows) → length (getD (r .rows) i []) ≡ 11 → rowOf (cellsIn (take i (r .rows))) (itemOf (r .store) (getD (r .rows) i [])) ≡ getD (r .rows) i []
-  record-again i l eleven =
-      let f = record-row i l in
-      ap (λ s. rowOf s (itemOf (r .store) (getD (r .rows) i []))) (sym (record-starts i l)) ∙ row-again (getD (r .rows) i []) eleven (r .store) (f .row) (f .inStore)
-
-  -- Moved by an edit, with its value elsewhere, it differs in three places.
-  pub record-moved : (e : Edit) (s i : ℕ) → i < length (r .rows) → length (getD (r .rows) i []) ≡ 11
-      → let row = getD (r .rows) i [] in rowOf s (movedItem e (itemOf (r .store) row)) ≡ set (set (set row positionAt (moved e (getD row positionAt 0))) reachAt (moved e (getD row reachAt 0))) startAt s
-  record-moved e s i l eleven =
-      let row = getD (r .rows) i [] in
-      ap (λ x. set (set (set x positionAt (moved e (getD row positionAt 0))) reachAt (moved e (getD row reachAt 0))) startAt s) (record-again i l eleven)

@@ -142,7 +142,7 @@ unfolding items
 items-step tok n t p f e = subst (λ i. items tok (suc n) t p f ≡ i ∷ cond (endsRun i) [] (items tok n t (i .position) (i .flags))) (sym e) refl
 
 module _ {tok : Reader} {k : ℕ} {f : spec.Flags} {t : List ℕ} {rows : List (List ℕ)} {store : List ℕ} {at : Progress} {rows′ : List (List ℕ)} {store′ : List ℕ} (s : Stands tok k f t rows store at rows′ store′) where
-  pub stands-more : {at″ : Progress} {rows″ : List (List ℕ)} {store″ : List ℕ} → Next tok t at rows′ store′ at″ rows″ store″ → at .ended ≡ false → length t + 2 ≤ length rows → length t ≤ length store
+  stands-more : {at″ : Progress} {rows″ : List (List ℕ)} {store″ : List ℕ} → Next tok t at rows′ store′ at″ rows″ store″ → at .ended ≡ false → length t + 2 ≤ length rows → length t ≤ length store
       → Stands tok k f t rows store at″ rows″ store″
   stands-more {at″} {rows″} {store″} n going room long =
       let i = n .item in
