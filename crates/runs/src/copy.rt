@@ -63,6 +63,7 @@ fn copy_item(
 }
 
 // Writes the old items from the row `first` up to `end` again, moved, behind those that are written.
+// Ruled out, among others: value starts as they were in the old store; a reach that stays where its position moves.
 pub fn copy_items(
     old_rows: &[[u32; 11]],
     old_store: &[u32],

@@ -66,6 +66,7 @@ fn put_start(start_type: u32, flags: Flags, rows: &mut [[u32; 11]]) -> Progress
 }
 
 // Reads the next item: its value goes behind the last one, its row behind the last row.
+// Ruled out, among others: a value that ends outside the store; an item that takes no character and does not end the run.
 pub fn read_item(
     text: &[u32],
     at: Progress,
