@@ -39,7 +39,7 @@ fn number(base: u32, n: u32) {
         return;
     }
     let mut digits = [0u32; 10];
-    let k = runs::print::put_number(base, n, &mut digits, 0);
+    let k = printing::print::put_number(base, n, &mut digits, 0);
     letters(&digits, 0, k);
 }
 

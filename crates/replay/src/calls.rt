@@ -2,12 +2,12 @@
 use crate::say;
 use scope::broken;
 use scope::keys;
-use scope::naming;
-use scope::parsed;
-use scope::push;
 use scope::scope::Changed;
 use scope::scope::Scope;
-use scope::stack;
+use scope_calls::naming;
+use scope_calls::parsed;
+use scope_calls::push;
+use scope_calls::stack;
 
 // A refused call leaves the scope that was.
 pub fn after(r: Changed, s: Scope) -> Scope {

@@ -1,10 +1,10 @@
 // The scope calls at their limits, each trial in rows of its own.
 use crate::calls;
 use crate::say;
-use scope::parsed;
 use scope::scope::Changed;
 use scope::scope::Scope;
-use scope::stack;
+use scope_calls::parsed;
+use scope_calls::stack;
 
 // The characters that lists take their names from.
 const ABC: [u32; 3] = [0x61, 0x62, 0x63];

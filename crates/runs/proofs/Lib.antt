@@ -2,10 +2,6 @@ pub mod RunLaws
 pub mod RepairLaws
 pub mod RecordLaws
 pub mod RequestLaws
-pub mod KeptLaws
-pub mod RequestCodeLaws
-pub mod FittingLaws
-pub mod PointerLaws
 pub mod Demand3
 pub mod ThreeParts
 pub mod Edits
@@ -16,9 +12,3 @@ pub mod CallLaws
 pub mod RanLaws
 pub mod RunCallLaws
 pub mod BehindLaws
-pub mod MatchLaws
-pub mod FreshLaws
-pub mod PrintLaws
-pub mod RepairCodeLaws
-pub mod RepairCallLaws
-pub mod BothCalls

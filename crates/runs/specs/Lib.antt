@@ -4,11 +4,8 @@ pub mod Edit
 pub mod Repair
 pub mod Record
 pub mod Request
-pub mod Asking
 pub mod Calls
 pub mod Print
 pub mod Coded
 pub mod Ran
 pub mod Copied
-pub mod Match
-pub mod Repaired

@@ -10,14 +10,4 @@ pub mod TextLaws
 pub mod KeyLaws
 pub mod LongestLaws
 pub mod WidthLaws
-pub mod WrittenLaws
-pub mod StackLaws
-pub mod AddLaws
 pub mod ListLaws
-pub mod AppendLaws
-pub mod SettlesLaws
-pub mod NamingLaws
-pub mod NameCallLaws
-pub mod DeeperLaws
-pub mod UnbrokenLaws
-pub mod WholeLaws

@@ -10,6 +10,4 @@ pub mod Rows
 pub mod Longest
 pub mod Answers
 pub mod Rests
-pub mod Written
 pub mod Listing
-pub mod Naming

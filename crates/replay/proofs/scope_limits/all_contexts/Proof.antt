@@ -8,7 +8,7 @@ use Rattle.replay.proofs.scope_limits.all_contexts.Reads as reads
 use Rattle.replay.proofs.scope_limits.all_contexts.Lts as lts
 use Rattle.replay.proofs.calls.after.Reads as after-reads
 use Rattle.scope.proofs.scope.Scope.opened.Reads as opened-reads
-use Rattle.scope.proofs.stack.push_default.Reads as push-default-reads
+use Rattle.scope_calls.proofs.stack.push_default.Reads as push-default-reads
 
 abbrev Inv-loop : tie.InvT-loop
 Inv-loop slots names s₀ i₀ s i = i ≤ 31

@@ -9,7 +9,7 @@ use Rattle.replay.proofs.scope_limits.all_parsed.Tie as tie
 use Rattle.replay.proofs.scope_limits.all_parsed.Reads as reads
 use Rattle.replay.proofs.scope_limits.all_parsed.Lts as lts
 use Rattle.replay.proofs.calls.after.Reads as after-reads
-use Rattle.scope.proofs.parsed.add_parsed_name.Reads as add-parsed-name-reads
+use Rattle.scope_calls.proofs.parsed.add_parsed_name.Reads as add-parsed-name-reads
 use Rattle.scope.proofs.scope.Scope.opened.Reads as opened-reads
 
 abbrev Inv-loop : tie.InvT-loop

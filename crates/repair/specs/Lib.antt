@@ -1,0 +1,3 @@
+pub mod Asking
+pub mod Match
+pub mod Repaired

@@ -1,0 +1,10 @@
+pub mod WrittenLaws
+pub mod StackLaws
+pub mod AddLaws
+pub mod AppendLaws
+pub mod SettlesLaws
+pub mod NamingLaws
+pub mod NameCallLaws
+pub mod DeeperLaws
+pub mod UnbrokenLaws
+pub mod WholeLaws
