@@ -1,0 +1,2 @@
+//! Safe Rust over the proved FEEL lexer.
+pub mod sys;
