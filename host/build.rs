@@ -6,12 +6,17 @@ fn main() {
     println!("cargo:rerun-if-env-changed=FEEL_LEXER_LIB");
     let folder = match env::var_os("FEEL_LEXER_LIB") {
         Some(folder) => PathBuf::from(folder),
-        None => PathBuf::from(env::var_os("CARGO_MANIFEST_DIR").unwrap()).join("../target/staticlib"),
+        None => {
+            PathBuf::from(env::var_os("CARGO_MANIFEST_DIR").unwrap()).join("../target/staticlib")
+        }
     };
     let archive = folder.join("libfeel_lexer.a");
     println!("cargo:rerun-if-changed={}", archive.display());
     if !archive.exists() {
-        panic!("no {}: run `rt staticlib feel_lexer` at the repository's root, or name the folder in FEEL_LEXER_LIB", archive.display());
+        panic!(
+            "no {}: run `rt staticlib feel_lexer` at the repository's root, or name the folder in FEEL_LEXER_LIB",
+            archive.display()
+        );
     }
     println!("cargo:rustc-link-search=native={}", folder.display());
     println!("cargo:rustc-link-lib=static=feel_lexer");

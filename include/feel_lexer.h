@@ -65,10 +65,10 @@ extern "C" {
 #define FEEL_STORE_FOR(n) (n)         /* cells of its value store; also of a token's output */
 #define FEEL_SCRATCH_FOR(n) (2 * (n)) /* cells of scratch */
 
-#define FEEL_MAX_CONTEXTS 32      /* stacked contexts */
-#define FEEL_MAX_ENTRIES 512      /* entries at all depths of all contexts */
-#define FEEL_MAX_PARSED_NAMES 256 /* distinct parsed names */
-#define FEEL_MAX_DEPTH 7          /* depth of an entry */
+#define FEEL_MAX_CONTEXTS 32 /* stacked contexts */
+#define FEEL_MAX_ENTRIES 512 /* entries at all depths of all contexts */
+#define FEEL_MAX_PARSED 256  /* distinct parsed names */
+#define FEEL_MAX_DEPTH 7     /* depth of an entry */
 
 /* ---- Places ---- */
 
@@ -137,19 +137,19 @@ enum feel_flag {
 
 /* Why a call refuses. The text's author causes 1 to 8, the host 9 to 13. */
 enum feel_refusal {
-    FEEL_REFUSAL_TOO_LONG = 1,         /* more than FEEL_MAX_CHARS characters, or FEEL_MAX_BYTES bytes */
-    FEEL_REFUSAL_NOT_UTF8 = 2,         /* place: the byte where the first bad sequence begins */
-    FEEL_REFUSAL_NO_HEX_DIGIT = 3,     /* a hexadecimal digit was due; carry: what stands there */
-    FEEL_REFUSAL_ENDS_IN_ESCAPE = 4,   /* the text ends where a hexadecimal digit was due */
-    FEEL_REFUSAL_NO_CHARACTER = 5,     /* an escape in DC00..DFFF or above 10FFFF; carry: its value */
-    FEEL_REFUSAL_NO_SECOND_HALF = 6,   /* a pair's second half outside DC00..DFFF; carry: its value */
-    FEEL_REFUSAL_ENDS_IN_PAIR = 7,     /* under two characters behind a pair's first half */
-    FEEL_REFUSAL_STARTS_WITH_IN = 8,   /* till_in is set, and the name's first part is `in` */
-    FEEL_REFUSAL_SLICE_TOO_SHORT = 9,  /* a lent output, scratch or record; or a shape, see above */
-    FEEL_REFUSAL_BROKEN_SCOPE = 10,    /* an entry list, a name or the lent scope is broken */
-    FEEL_REFUSAL_OVER_LIMIT = 11,      /* the scope would exceed a limit afterwards */
-    FEEL_REFUSAL_BEYOND_TEXT = 12,     /* the position lies beyond the text */
-    FEEL_REFUSAL_BROKEN_REQUEST = 13   /* edit, old record and text part do not fit together */
+    FEEL_REFUSAL_TOO_LONG = 1,           /* more than FEEL_MAX_CHARS characters, or FEEL_MAX_BYTES bytes */
+    FEEL_REFUSAL_NOT_UTF8 = 2,           /* place: the byte where the first bad sequence begins */
+    FEEL_REFUSAL_NO_HEX_DIGIT = 3,       /* a hexadecimal digit was due; carry: what stands there */
+    FEEL_REFUSAL_END_AT_HEX_DIGIT = 4,   /* the text ends where a hexadecimal digit was due */
+    FEEL_REFUSAL_NO_SCALAR_VALUE = 5,    /* an escape in DC00..DFFF or above 10FFFF; carry: its value */
+    FEEL_REFUSAL_NO_SECOND_HALF = 6,     /* a pair's second half outside DC00..DFFF; carry: its value */
+    FEEL_REFUSAL_END_AT_SECOND_HALF = 7, /* under two characters behind a pair's first half */
+    FEEL_REFUSAL_STARTS_WITH_IN = 8,     /* till_in is set, and the name's first part is `in` */
+    FEEL_REFUSAL_SHORT_SLICE = 9,        /* a lent output, scratch or record; or a shape, see above */
+    FEEL_REFUSAL_BROKEN_SCOPE = 10,      /* an entry list, a name or the lent scope is broken */
+    FEEL_REFUSAL_OVER_LIMIT = 11,        /* the scope would exceed a limit afterwards */
+    FEEL_REFUSAL_BEYOND_TEXT = 12,       /* the position lies beyond the text */
+    FEEL_REFUSAL_BROKEN_REQUEST = 13     /* edit, old record and text part do not fit together */
 };
 
 /* Token types; the numbers are those of the grammar's tables. */

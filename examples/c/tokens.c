@@ -198,7 +198,7 @@ static void print_carry(const uint32_t *row)
 {
     switch (row[FEEL_ROW_NUMBER]) {
     case FEEL_REFUSAL_NO_HEX_DIGIT:
-    case FEEL_REFUSAL_NO_CHARACTER:
+    case FEEL_REFUSAL_NO_SCALAR_VALUE:
     case FEEL_REFUSAL_NO_SECOND_HALF:
         printf("%X", (unsigned)row[FEEL_ROW_EXTRA]);
         break;
