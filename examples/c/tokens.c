@@ -48,6 +48,7 @@ static void accepted(uint32_t refusal, const char *call)
 {
     if (refusal == 0)
         return;
+    fflush(stdout);
     fprintf(stderr, "%s: refusal %u at %zu, carry %zX\n", call, (unsigned)refusal, answer[FEEL_ANSWER_PLACE],
             answer[FEEL_ANSWER_EXTRA]);
     exit(1);
@@ -89,22 +90,19 @@ static void run(const struct text *text, struct record *record)
     record->used = answer[FEEL_ANSWER_LENGTH];
 }
 
-/* Old text, replacement, old text again. */
-static void apply(const struct text *old, const struct edit *edit, struct text *next)
+/* Old text, replacement, old text again; 0 where that cannot be. */
+static int apply(const struct text *old, const struct edit *edit, struct text *next)
 {
-    if (edit->from > edit->to || edit->to > old->length) {
-        fprintf(stderr, "the edit lies outside the rule, which has %zu characters\n", old->length);
-        exit(1);
-    }
     open_string(edit->put, &put);
-    if (old->length - (edit->to - edit->from) + put.length > FEEL_MAX_CHARS) {
-        fprintf(stderr, "the edited rule has more than %d characters\n", FEEL_MAX_CHARS);
-        exit(1);
-    }
+    if (edit->from > edit->to || edit->to > old->length)
+        return 0;
+    if (old->length - (edit->to - edit->from) + put.length > FEEL_MAX_CHARS)
+        return 0;
     memcpy(next->cells, old->cells, edit->from * sizeof(uint32_t));
     memcpy(next->cells + edit->from, put.cells, put.length * sizeof(uint32_t));
     memcpy(next->cells + edit->from + put.length, old->cells + edit->to, (old->length - edit->to) * sizeof(uint32_t));
     next->length = old->length - (edit->to - edit->from) + put.length;
+    return 1;
 }
 
 /* Of the new text only what lies behind the last item kept is handed on. */
@@ -250,13 +248,16 @@ int main(int argc, char **argv)
     for (int i = next + 1; i < argc; i++)
         put_in_scope(argv[i]);
 
-    run(&old_text, &old_record);
-    print_record(&old_record);
-
     if (edit.put == NULL)
         edit = (struct edit){old_text.length, old_text.length, " + 1"};
+    if (!apply(&old_text, &edit, &new_text)) {
+        fprintf(stderr, "the edit lies outside the rule of %zu characters, or makes it too long\n", old_text.length);
+        return 1;
+    }
+
+    run(&old_text, &old_record);
+    print_record(&old_record);
     printf("\nedit %zu..%zu=%s: ", edit.from, edit.to, edit.put);
-    apply(&old_text, &edit, &new_text);
     repair(&edit);
     print_record(&repaired);
 

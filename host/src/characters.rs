@@ -1,6 +1,6 @@
 //! Characters as the library holds them, one cell each.
 
-use std::fmt;
+use std::fmt::{self, Write};
 
 /// Characters of a text or of a value, borrowed where they stand.
 ///
@@ -68,8 +68,7 @@ impl<'a> Characters<'a> {
 
 impl fmt::Display for Characters<'_> {
     fn fmt(&self, f: &mut fmt::Formatter<'_>) -> fmt::Result {
-        self.chars()
-            .try_for_each(|c| f.write_fmt(format_args!("{c}")))
+        self.chars().try_for_each(|c| f.write_char(c))
     }
 }
 
