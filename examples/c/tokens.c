@@ -1,8 +1,8 @@
 /* Prints the tokens of a FEEL rule, edits it, repairs the tokens and holds them against a fresh run
  * and against the token call.
  *
- *     cc -std=c99 -Wall -Wextra -pedantic -Werror -I include examples/c/tokens.c target/staticlib/libfeel_lexer.a -o tokens
- *     ./tokens 'if row width-gutter > 10 then 1 else 2' 'row width' gutter
+ *     cc -std=c99 -I include examples/c/tokens.c target/staticlib/libfeel_lexer.a -o target/tokens
+ *     target/tokens 'if row width-gutter > 10 then 1 else 2' 'row width' gutter
  *
  * The first argument is the rule (- or none: standard input), the others are names in scope. Before
  * them may stand --edit FROM..TO=TEXT, which replaces the characters FROM to TO, TO not included;
