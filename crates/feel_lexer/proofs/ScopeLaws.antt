@@ -1,6 +1,6 @@
 -- A scope call through numbers: refused for its sizes, or what the call below answered.
 use mathlib.Core.Path.{_≡_, refl, sym, ap, _∙_, subst}
-use mathlib.Core.Bool.{false, cond}
+use mathlib.Core.Bool.{false}
 use mathlib.Core.List.{List, [], _∷_}
 use Prim.Native.Nat.{ℕ, _+_, _≤_, _<_}
 use lib.ListN.{length}
@@ -13,8 +13,8 @@ use Rattle.scope.specs.Answers.{lent, answerOf, Kept, Whole}
 use Rattle.scope.specs.declared.scope.Scope.{Scope}
 use Rattle.scope.specs.declared.scope.Changed.{Changed}
 use Rattle.scope.specs.declared.scope.Changed.the-variants.{Done, Refused}
-use Rattle.feel_lexer.specs.Numbers.{countsOf, lentOf}
-use Rattle.feel_lexer.specs.Exported.{Sized, codedNumber, scopeNumbers, changedNumber, Leaves, scopeCall, ScopeCall, Opens, ScopeOpened}
+use Rattle.feel_lexer.specs.Numbers.{countsOf}
+use Rattle.feel_lexer.specs.Exported.{Sized, codedNumber, scopeNumbers, changedNumber, Leaves, scopeCall, ScopeCall, ScopeOpened}
 use Rattle.feel_lexer.proofs.SizeLaws.{has-sizes, not-sized}
 
 same-number : (c : Changed) (slots names : List (List ℕ)) → codedNumber c ≡ changedNumber (answerOf c slots names)

@@ -1,26 +1,19 @@
--- What a call checks first, and the whole of scratch cleared.
-use mathlib.Core.Path.{_≡_, refl, sym, ap, _∙_}
+-- What a call checks first.
+use mathlib.Core.Path.{_≡_, refl, sym, ap}
 use mathlib.Core.Bool.{Bool, true, false, cond, _&&_}
-use mathlib.Core.List.{List, append-nil}
+use mathlib.Core.List.{List}
 use Prim.Native.Nat.{ℕ, _+_, _*_, _≤_, _<_}
 use native.Mathlib.Omega.{arith}
 use lib.Dec.{leb, ltb}
 use borrow.Author.Tests.{lt-ltb, le-ltb, ltb-false, le-leb, lt-leb, leb-true}
-use lib.ListN.{length, drop-of-length-le}
-use Rattle.reading.specs.Slices.{zeros}
+use lib.ListN.{length}
 use Rattle.reading.proofs.Test.{both}
 use Rattle.text.specs.Limits.{maxChars}
 use Rattle.text.specs.Refusals.{tooLong, shortSlice, brokenScope}
 use Rattle.scope.specs.Lent.{Lent, isBroken}
-use Rattle.naming.proofs.PrefixLaws.{Clearing, clearing-all}
 use Rattle.runs.specs.Record.{Record}
 use Rattle.runs.specs.Calls.{Room, Answer, made, refused, hasRoom, checked}
 use Rattle.runs.specs.Ran.{refusal}
-
-pub all-clear : {o o′ : List ℕ} {j : ℕ} → Clearing o j o′ → j ≤ length o → length o ≤ j → o′ ≡ zeros (length o)
-all-clear {o} c h l =
-    let w = clearing-all c h l in
-    w .left ∙ rw (← w .size, drop-of-length-le o {i = length o} (omega arith), append-nil)
 
 module _ (l : Lent) (n rows store scratch : ℕ) where
   pub too-long : maxChars < n → tooLong ≡ refusal l n rows store scratch

@@ -6,7 +6,6 @@ use Prim.Native.Nat.{ℕ, suc, _+_, _-_, _≤_, _<_}
 use native.Mathlib.Nat.{le-refl}
 use native.Mathlib.Omega.{arith}
 use lib.Dec.{leb}
-use borrow.Author.Tests.{leb-true}
 use borrow.Rule.Slice.PartMut.{putMid}
 use lib.ListN.{length, take, drop, set, length-drop, drop-of-length-le}
 use lib.Seq.{take-all}
@@ -14,7 +13,6 @@ use Rattle.reading.specs.Look.{run}
 use Rattle.reading.specs.Goes.{got}
 use Rattle.reading.specs.Cells.{isOneOf}
 use Rattle.reading.specs.Slices.{front}
-use Rattle.reading.proofs.Test.{by-test, below, every}
 use Rattle.text.specs.Limits.{maxChars}
 use Rattle.lexer.specs.Flags as spec
 use Rattle.lexer.specs.Read.{outcome, cellsOf, isLast}
@@ -35,22 +33,6 @@ use Rattle.runs.specs.Coded.{cellCount, itemFrom, Small, rowFrom}
 use Rattle.runs.specs.Ran.{Next, Stands}
 use Rattle.runs.proofs.CodedLaws.{cell-count, row-is, ends-is, size-of, small-of}
 use Rattle.runs.proofs.BehindLaws.{lay-long, behind-one, behind-more}
-
--- The nine start types are 258 to 266.
-not-start : (k : ℕ) → ((isOneOf startTypes k ≡ true) → ⊥) → TokenType.YyError ≡ cond (isOneOf startTypes k) k TokenType.YyError
-not-start k g = by-test (λ n. TokenType.YyError ≡ n) (isOneOf startTypes k) (λ h. absurd (g h)) (λ _. refl)
-
-pub start-low : (k : ℕ) → k < 258 → TokenType.YyError ≡ cond (isOneOf startTypes k) k TokenType.YyError
-start-low k h = not-start k (λ g. let l = leb-true 258 k (every (λ c. leb 258 c) startTypes k refl g) in omega arith)
-
-pub start-high : (k : ℕ) → 266 < k → TokenType.YyError ≡ cond (isOneOf startTypes k) k TokenType.YyError
-start-high k h = not-start k (λ g. let l = leb-true k 266 (every (λ c. leb c 266) startTypes k refl g) in omega arith)
-
-pub start-in : (k : ℕ) → 258 ≤ k → k ≤ 266 → k ≡ cond (isOneOf startTypes k) k TokenType.YyError
-start-in k h l =
-    let e : 258 + (k - 258) ≡ k = omega arith in
-    let g : isOneOf startTypes k ≡ true = rw e at (below (λ j. isOneOf startTypes (258 + j)) 9 refl (k - 258) (omega arith)) in
-    rw g
 
 module _ {k n : ℕ} {f : Flags} {c : Coded} {rows rows′ : List (List ℕ)} {ended : Bool} (isStart : n ≡ cond (isOneOf startTypes k) k TokenType.YyError) (isItem : c ≡ itemFrom (Plain n) 0 f 0) where
   pub stands-start : 0 < length rows → rows′ ≡ set rows 0 (rowFrom 0 c) → ended ≡ isLast (c .«is_refusal») (c .number) → (tok : Reader) (t store : List ℕ)

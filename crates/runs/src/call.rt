@@ -17,11 +17,8 @@ pub enum Made {
 pub fn clear(scratch: &mut [u32])
     ensures { λ _. ⌜ now (scratch .exit) ≡ zeros (length (now (scratch .entry))) ⌝ }
 {
-    let mut i: usize = 0;
-    while i < scratch.len() {
-        scratch[i] = 0;
-        i += 1;
-    }
+    let n = scratch.len();
+    naming::prefix::clear(scratch, n);
 }
 
 // The refusal of a text of n characters where so many rows, store cells and scratch cells are lent; 0 is none.

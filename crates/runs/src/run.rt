@@ -1,10 +1,9 @@
 // A run over a text: the start item, then tokens to the first item that ends it.
 ghost use mathlib.Core.Path.{_≡_};
-ghost use mathlib.Core.Bool.{true, false, cond};
+ghost use mathlib.Core.Bool.{true, false};
 ghost use mathlib.Core.List.{List};
 ghost use Prim.Native.Nat.{ℕ, _+_, _-_, _*_, _≤_, _<_};
 ghost use lib.ListN.{length};
-ghost use Rattle.reading.specs.Cells.{isOneOf};
 ghost use Rattle.text.specs.Limits.{maxChars};
 ghost use Rattle.scope.specs.Keys.{isName};
 ghost use Rattle.scope.specs.Capped.{Capped};
@@ -12,9 +11,7 @@ ghost use Rattle.scope.specs.Lent.{isBroken, scopeOf};
 ghost use Rattle.scope.specs.Answers.{lent};
 ghost use Rattle.lexer.specs.Fit.{Clear};
 ghost use Rattle.lexer.specs.FlagsOf.{flagsOf};
-ghost use Rattle.lexer.specs.Lexer.{startTypes};
 ghost use Rattle.lexer.specs.Token.{readToken};
-ghost use Rattle.lexer.specs.TokenType;
 ghost use Rattle.runs.specs.Run.{Reader};
 ghost use Rattle.runs.specs.Ran.{Ran, Next, Stands};
 use crate::call;
@@ -34,25 +31,12 @@ pub struct Progress {
     pub ended: bool,
 }
 
-// The start item's type; the nine are 258 to 266, and any other gives YyError.
-fn start_number(k: u32) -> u32
-    ensures { λ r. ⌜ r ≡ cond (isOneOf startTypes k) k TokenType.YyError ⌝ }
-{
-    if k < 258 {
-        return item::YY_ERROR;
-    }
-    if 266 < k {
-        return item::YY_ERROR;
-    }
-    k
-}
-
 // Writes the start item.
 fn put_start(start_type: u32, flags: Flags, rows: &mut [[u32; 11]]) -> Progress
     requires { ⌜ 0 < length (now rows) ⌝ }
     ensures { λ r. ⌜ ((tok : Reader) (t store : List ℕ) → Stands tok «start_type» (flagsOf flags) t (now (rows .entry)) store r (now (rows .exit)) store) ⌝ }
 {
-    let k = start_number(start_type);
+    let k = tokens::call::start_number(start_type);
     let i = Item::new(Read::Plain(k), 0, flags, 0);
     item::put_row(rows, 0, i, 0);
     let ended = item::ends_run(i);

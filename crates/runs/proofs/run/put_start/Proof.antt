@@ -11,7 +11,7 @@ use Rattle.runs.proofs.run.put_start.Lts as lts
 use Rattle.runs.proofs.item.Item.new.Reads as new-reads
 use Rattle.runs.proofs.item.ends_run.Reads as ends-run-reads
 use Rattle.runs.proofs.item.put_row.Reads as put-row-reads
-use Rattle.runs.proofs.run.start_number.Reads as start-number-reads
+use Rattle.tokens.proofs.call.start_number.Reads as start-number-reads
 
 start-number-requires : tie.Need-start-number-requires
 start-number-requires c κs = search needs
