@@ -1,3 +1,4 @@
 pub mod KeywordLaws
 pub mod TokenLaws
 pub mod CallLaws
+pub mod Setter

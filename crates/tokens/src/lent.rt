@@ -1,0 +1,40 @@
+// A lexer lent to be changed: each method takes the state out, calls the function by value, and puts the new state back.
+ghost use mathlib.Core.Path.{_≡_};
+ghost use Rattle.lexer.specs.Flags as flag;
+ghost use Rattle.lexer.specs.Lexer as spec;
+ghost use Rattle.tokens.specs.CalledBy.{stateOf};
+use crate::call::Lexer;
+
+impl Lexer {
+    // The setters set one flag and clear none.
+    // Ruled out, among others, of each of the five: another flag set; the state left as it was.
+    pub fn set_unary_tests_mut(&mut self)
+        ensures { λ _. ⌜ stateOf (now (self .exit)) ≡ spec.set flag.UnaryTests (stateOf (now (self .entry))) ⌝ }
+    {
+        *self = self.set_unary_tests();
+    }
+
+    pub fn set_between_mut(&mut self)
+        ensures { λ _. ⌜ stateOf (now (self .exit)) ≡ spec.set flag.Between (stateOf (now (self .entry))) ⌝ }
+    {
+        *self = self.set_between();
+    }
+
+    pub fn set_type_name_mut(&mut self)
+        ensures { λ _. ⌜ stateOf (now (self .exit)) ≡ spec.set flag.TypeName (stateOf (now (self .entry))) ⌝ }
+    {
+        *self = self.set_type_name();
+    }
+
+    pub fn set_till_in_mut(&mut self)
+        ensures { λ _. ⌜ stateOf (now (self .exit)) ≡ spec.set flag.TillIn (stateOf (now (self .entry))) ⌝ }
+    {
+        *self = self.set_till_in();
+    }
+
+    pub fn set_after_dot_mut(&mut self)
+        ensures { λ _. ⌜ stateOf (now (self .exit)) ≡ spec.set flag.AfterDot (stateOf (now (self .entry))) ⌝ }
+    {
+        *self = self.set_after_dot();
+    }
+}
