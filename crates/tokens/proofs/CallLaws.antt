@@ -23,7 +23,7 @@ use Rattle.lexer.specs.TokenType
 use Rattle.lexer.specs.FlagsOf.{flagsOf}
 use Rattle.lexer.specs.Fit.{Clear}
 use Rattle.lexer.specs.Taken.{Taken}
-use Rattle.tokens.specs.CalledBy.{stateOf, refusalOf, Stepped, CalledBy}
+use Rattle.tokens.specs.CalledBy.{stateOf, refusalOf, Stepped, CalledBy, standing}
 use Rattle.tokens.specs.declared.call.Lexer.{Lexer}
 use Rattle.tokens.specs.declared.call.Called.{Called}
 use Rattle.lexer.specs.declared.token.Outcome.{Outcome}
@@ -145,3 +145,18 @@ module _ (lent : Lent) (l : Lexer) (t o scratch : List ℕ) {scratch′ : List �
 
   pub call-made : n ≡ 0 → {r : Called} {o′ : List ℕ} → Stepped (step (scopeOf lent) (stateOf l) t) o r o′ → CalledBy (nextToken lent (stateOf l) t o scratch) r o′ scratch′
   call-made e {r} {o′} s = subst (λ c. CalledBy c r o′ scratch′) (sym (called-by lent (stateOf l) t o scratch (sym e ∙ p))) (record { read = s .read; place = s .place; next = s .next; left = s .left; clean = clean })
+
+-- The place of a call is the position of the state after it, refused or not.
+place-is : (lent : Lent) (s : State) (t output scratch : List ℕ) → nextToken lent s t output scratch .next .position ≡ nextToken lent s t output scratch .place
+place-is lent s t output scratch =
+    by-test P (ltb maxChars (length t)) (λ _. refl)
+    (λ _. by-test P (ltb (length t) (s .position)) (λ _. refl)
+    (λ _. by-test P (isBroken lent) (λ _. refl)
+    (λ _. by-test P (ltb (length output) (length t) || ltb (length scratch) (2 * length t)) (λ _. refl) (λ _. refl))))
+  where
+    P : spec.Called → Type 0
+    P c = c .next .position ≡ c .place
+
+pub call-standing : (lent : Lent) (s : State) (t output scratch : List ℕ) {r : Called} {o′ scratch′ : List ℕ} → CalledBy (nextToken lent s t output scratch) r o′ scratch′
+    → CalledBy (nextToken lent s t output scratch) (standing (r .read) (r .next)) o′ scratch′
+call-standing lent s t output scratch x = record { read = x .read; place = ap (λ (y : State). y .position) (x .next) ∙ place-is lent s t output scratch; next = x .next; left = x .left; clean = x .clean }

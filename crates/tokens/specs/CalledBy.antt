@@ -14,6 +14,7 @@ use Rattle.lexer.specs.Lexer as spec
 use Rattle.lexer.specs.Lexer.{State, state, Step}
 use Rattle.lexer.specs.FlagsOf.{flagsOf}
 use Rattle.lexer.specs.Taken.{coded}
+use Rattle.lexer.specs.declared.token.Read.{Read}
 use Rattle.tokens.specs.declared.call.Lexer.{Lexer}
 use Rattle.tokens.specs.declared.call.Called.{Called}
 
@@ -43,3 +44,7 @@ pub record CalledBy (c : spec.Called) (r : Called) (output scratch : List ℕ) :
   pub next : stateOf (r .next) ≡ c .next
   pub left : output ≡ c .output
   pub clean : scratch ≡ c .scratch
+
+-- A call on a lent lexer answers what was read and leaves the lexer at l: its place is l's position.
+abbrev pub standing : Read → Lexer → Called
+standing r l = record { read = r; place = l .position; next = l }
