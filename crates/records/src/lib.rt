@@ -1,0 +1,4 @@
+// Records as lent slices of structs, over the number form.
+
+pub mod stored; // stored.rt: an item as it is stored, and its row
+pub mod rows; // rows.rt: the calls over rows that stand beside lent items
