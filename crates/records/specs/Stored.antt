@@ -1,4 +1,5 @@
 -- An item as a struct, and the row of eleven numbers that it stands for.
+use mathlib.Core.Bool.{false}
 use mathlib.Core.List.{List, [], _∷_}
 use Prim.Native.Nat.{ℕ}
 use lib.Dec.{eqb}
@@ -34,3 +35,19 @@ storedOf r = record {
 abbrev pub rowFrom : Stored → List ℕ
 rowFrom i =
     bit (i .refused) ∷ i .number ∷ i .position ∷ flagBits (flagsOf (i .flags)) ∷ i .reach ∷ i .start ∷ i .length ∷ i .before ∷ i .after ∷ i .exponent ∷ i .extra ∷ []
+
+-- What stands where nothing does: the item of a row of zeros.
+abbrev pub blank : Stored
+blank = record {
+  refused = false;
+  number = 0;
+  position = 0;
+  flags = record { «unary_tests» = false; between = false; «type_name» = false; «till_in» = false; «after_dot» = false };
+  reach = 0;
+  start = 0;
+  length = 0;
+  before = 0;
+  after = 0;
+  exponent = 0;
+  extra = 0;
+}
