@@ -2,4 +2,4 @@
 
 pub mod stored; // stored.rt: an item as it is stored, and its row
 pub mod rows; // rows.rt: the calls over rows that stand beside lent items
-pub mod items; // items.rt: a lent slice of items
+pub mod items; // items.rt: a lent slice of items, from rows and to rows
