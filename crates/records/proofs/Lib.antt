@@ -5,3 +5,5 @@ pub mod Filling
 pub mod Lending
 pub mod Transfer
 pub mod ReadBack
+pub mod Values
+pub mod CallsLaws

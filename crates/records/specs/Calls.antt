@@ -36,3 +36,18 @@ pub record Within (n : ℕ) (a : Answer) (room : Room) (r : Made) (room′ : Roo
   pub left : room′ ≡ roomAfter a room
   pub few : rowsMade r ≤ n
   pub fits : rowsMade r ≤ length (room .rows)
+
+-- The items after a call: those of the record's rows fill their front, or all is as it was.
+abbrev pub itemsAfter : Answer → List Stored → List Stored
+itemsAfter (made r) items = front (map storedOf (r .rows)) items
+itemsAfter (refused n) items = items
+
+-- A call whose record is lent as items, too, answers r and leaves rows, store, scratch and items as they are then.
+pub record Leaves (a : Answer) (room : Room) (items : List Stored) (r : Made) (room′ : Room) (items′ : List Stored) : Type 0 where
+  pub answer : r ≡ answerOf a
+  pub left : room′ ≡ roomAfter a room
+  pub stored : items′ ≡ itemsAfter a items
+
+-- The old rows after a repair: those of the old items fill their front, or all is as it was where they are too few.
+abbrev pub packedIn : List Stored → List (List ℕ) → List (List ℕ)
+packedIn items rows = cond (ltb (length rows) (length items)) rows (front (map rowFrom items) rows)
