@@ -7,3 +7,4 @@ pub mod Transfer
 pub mod ReadBack
 pub mod Values
 pub mod CallsLaws
+pub mod ItemsAgree

@@ -14,7 +14,7 @@ use Rattle.records.proofs.StoredLaws.{all-back, row-back}
 use Rattle.records.proofs.Filling.{filled}
 
 module _ {A B : Type 0} (h : A → B) where
-  length-map : (xs : List A) → length (map h xs) ≡ length xs
+  pub length-map : (xs : List A) → length (map h xs) ≡ length xs
   length-map [] = refl
   length-map (x ∷ xs) = ap suc (length-map xs)
 

@@ -36,7 +36,7 @@ rowCount : Made → ℕ
 rowCount (variant.Record n m) = n
 rowCount (variant.Refused n) = 0
 
-made-by : (lent : Lent) (room : Room) (n : ℕ) (r : Record) {i c : ℕ} → variant.Record i c ≡ answerOf (checked lent room n r) → (n ≤ maxChars) × (checked lent room n r ≡ made r) × (i ≡ length (r .rows))
+pub made-by : (lent : Lent) (room : Room) (n : ℕ) (r : Record) {i c : ℕ} → variant.Record i c ≡ answerOf (checked lent room n r) → (n ≤ maxChars) × (checked lent room n r ≡ made r) × (i ≡ length (r .rows))
 unfolding isMade rowCount
 made-by lent room n r {i} = go (ltb maxChars n) refl (isBroken lent) (hasRoom n room)
   where
@@ -75,14 +75,14 @@ module _ (lent : Lent) (k : ℕ) (f : Flags) (old : List ℕ) (first : Room) {le
   same-rows : take n (left .rows) ≡ record-of .rows
   same-rows = ap (λ x. take n (x .rows)) same-room ∙ ap (λ i. take i (record-of .rows ++ drop (length (record-of .rows)) (first .rows))) (facts .2) ∙ take-append-seam (record-of .rows) _
 
-  behind : List ℕ
+  pub behind : List ℕ
   behind = drop (length (record-of .store)) (first .store)
 
   same-store : left .store ≡ record-of .store ++ behind
   unfolding behind
   same-store = ap (λ x. x .store) same-room
 
-  same-request : handed ≡ requestOf reader k f old a b put behind
+  pub same-request : handed ≡ requestOf reader k f old a b put behind
   same-request =
       ap (λ rs. asked (length old) rs (left .store) a b (length put) (drop (lastKept edit (unpack (record { rows = rs; store = left .store })) 0) new)) same-rows
       ∙ ap (λ s. asked (length old) (record-of .rows) s a b (length put) (drop (lastKept edit (unpack (record { rows = record-of .rows; store = s })) 0) new)) same-store
