@@ -11,16 +11,18 @@ use base.Logic.{ent, sep, ex}
 use base.Fml.{Lft, GName, Share, Fml, fsep, flft, fdead, fobs, fauth, flent, fobor}
 use prog.Wp.{Heap}
 use ghost.Atoms.{Atoms, sem}
-use types.Kit.{Given, ‵, _⊛_, some, later, _$_, _∵_, !, qed, move, use1, use3, drop, split, pick, fsplit, fsplit3, fjoin, feqI, frame, await, updating, now as at-once, show, done}
+use types.Kit.{Given, ‵, _⊛_, some, later, _$_, _∵_, !, qed, by, move, use1, use3, drop, split, pick, fsplit, fsplit3, fjoin, feqI, frame, await, updating, now as at-once, show, done}
 use types.Tokens.{lent-back}
 use types.Share.{arr-parts}
 use types.SemTy.{cells, Arr}
 use denote.RattleType.{RattleType}
 use denote.Shadow.{pureL, pureI}
-use denote.Memory.{mem, shares}
+use denote.Memory.{mem, partAt, shares}
 use denote.Ref.{RefT}
+use denote.Array.{Array}
+use denote.ArrayMemory.{Single, array-apart}
 use denote.Slice.{sliceVal, MutSlice, ShrSlice, heres, Room, finally, at-slice, codedHoleys}
-use denote.Lend.{Held, lends-slice, slice-back, lends-shr-slice}
+use denote.Lend.{Held, Lent, lends-slice, slice-back, lends-shr-slice}
 use denote.Index.{row, whole-out, whole-in, opens-slice, closes-slice}
 
 module _ (R : RattleType) (κ κ′ : Lft) (q : Share) (γ : GName) (b o : ℕ) where
@@ -74,3 +76,10 @@ module _ (R : RattleType) (κ κ′ : Lft) (q : Share) (γ : GName) (b o : ℕ) 
         qed W (‵ (fdead κ′) ∷ ‵ (KeptShared ys) ∷ []) ∵ updating ! $ move ! (1 ∷ []) $ fsplit ! $ move ! (2 ∷ 0 ∷ []) $ lent-back ! tt $ fsplit ! $ drop ! $
         move ! (1 ∷ []) $ fsplit3 ! $ move ! (3 ∷ 0 ∷ 1 ∷ 2 ∷ []) $ closes-slice ! tt R ys ys refl b o $ at-once ! $
         fjoin ! $ pureI ! (at-slice R (at-list γ ys) vals) (tt, (tt, tt)) (refl, room) $ fjoin ! $ done !
+
+-- A local array that is lent as a slice; it comes back by `slice-back` as its elements, of which `array-whole` makes the array again.
+pub lends-array : {M : Type 1} (𝓤 : URA M) (H : Heap 𝓤) (A : Atoms 𝓤) (W : Given 𝓤 H A) (R : RattleType) → Single (R .mir) → (n : ℕ) (ℓ : Lifetime) (κ : Lft) (xs : List (R .Denot)) (b o : ℕ) → Room R (length xs)
+    → ent 𝓤 (sem 𝓤 H A (partAt (Array R n) fullShare xs b o)) (H .⇛ (ex 𝓤 (Lent 𝓤 H A W R ℓ κ xs b o)))
+lends-array 𝓤 H A W R one n ℓ κ xs b o room =
+    qed W (‵ (partAt (Array R n) fullShare xs b o) ∷ []) ∵ use1 W (‵ (arr-parts (shares R) n .part fullShare xs b o)) (array-apart 𝓤 H A W R fullShare one n xs b o) $ fsplit ! $ drop ! $
+    use1 W (‵ (cells (mem R) xs b o)) (whole-in 𝓤 H A W R xs b o) $ by ! (lends-slice 𝓤 H A W R ℓ κ xs b o room)

@@ -14,7 +14,10 @@ use denote.RattleType.{RattleType}
 use denote.Laws.{Is, Tells, Copy, Makes, Lawful}
 use denote.Slice.{Room}
 use denote.Struct.Laws as LL
+use Rattle.lexer.proofs.flags.Flags as F
+use Rattle.lexer.proofs.flags.Flags.Laws as F′
 use Rattle.records.specs.declared.stored.Stored.{Stored}
+use Rattle.records.specs.Stored.{blank}
 use Rattle.records.proofs.stored.Stored as T
 use Rattle.records.proofs.stored.Stored.Laws as T′
 
@@ -53,3 +56,11 @@ module _ {M : Type 1} (𝓤 : URA M) (H : Heap 𝓤) (A : Atoms 𝓤) (W : Given
 -- An element's place fits a number.
 pub place-fits : (n i : ℕ) → Room R n → i < n → i * size < 2 ^ 64
 place-fits n i room l = omega (arith, room .1)
+
+-- No flag set, and a blank item.
+pub none-is : Is F.the-row (blank .flags) (LL.val F.the-type F′.the-laws (blank .flags) ∷ [])
+none-is = LL.owes F.the-type F′.the-laws (blank .flags) (refl, (refl, (refl, (refl, (refl, tt)))))
+
+pub blank-is : Is R blank (vals blank)
+blank-is = LL.owes T.the-type T′.the-laws blank
+    (refl, ((refl, lit< tt), ((refl, lit< tt), (none-is, ((refl, lit< tt), ((refl, lit< tt), ((refl, lit< tt), ((refl, lit< tt), ((refl, lit< tt), ((refl, lit< tt), ((refl, lit< tt), tt)))))))))))
