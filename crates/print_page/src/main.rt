@@ -41,7 +41,7 @@ fn line(i: usize, it: Stored) {
 // The lines of so many items.
 fn print_items(p: Page, count: usize) {
     let mut i: usize = 0;
-    while i < 32 {
+    while i < Page::ITEMS {
         if count <= i {
             return;
         }

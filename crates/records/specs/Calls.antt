@@ -51,3 +51,7 @@ pub record Leaves (a : Answer) (room : Room) (items : List Stored) (r : Made) (r
 -- The old rows after a repair: those of the old items fill their front, or all is as it was where they are too few.
 abbrev pub packedIn : List Stored → List (List ℕ) → List (List ℕ)
 packedIn items rows = cond (ltb (length rows) (length items)) rows (front (map rowFrom items) rows)
+
+-- How many items a page has.
+abbrev pub pageItems : ℕ
+pageItems = 32

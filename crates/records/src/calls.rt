@@ -10,8 +10,8 @@ ghost use Rattle.runs.specs.Calls.{runCall};
 ghost use Rattle.repair.specs.Asking.{asked};
 ghost use Rattle.records.specs.Stored.{storedOf, rowFrom};
 ghost use Rattle.records.specs.Calls.{cutTo, rowsMade, repairRowsCall, packedIn, Leaves};
-use crate::items as list;
-use crate::rows as numbers;
+use crate::items;
+use crate::rows;
 use crate::stored::Stored;
 use lexer::flags::Flags;
 use runs::call::Made;
@@ -22,16 +22,16 @@ fn unpack_made(made: Made, rows: &[[u32; 11]], items: &mut [Stored])
     requires { ⌜ (rowsMade made ≤ length (now rows)) × (rowsMade made ≤ length (now items)) ⌝ }
     ensures { λ _. ⌜ now (items .exit) ≡ front (map storedOf (take (rowsMade made) (now (rows .entry)))) (now (items .entry)) ⌝ }
 {
-    let n = numbers::rows_made(made);
-    list::unpack(rows, items, n);
+    let n = rows::rows_made(made);
+    items::unpack(rows, items, n);
 }
 
 // Writes the rows of all items, or none where there are too few rows.
 fn pack_all(items: &[Stored], rows: &mut [[u32; 11]])
     ensures { λ _. ⌜ now (rows .exit) ≡ packedIn (now (items .entry)) (now (rows .entry)) ⌝ }
 {
-    let n = numbers::rows_packed(items.len(), rows.len());
-    list::pack(items, rows, n);
+    let n = rows::rows_packed(items.len(), rows.len());
+    items::pack(items, rows, n);
 }
 
 // The record of a run over a text as stored items: they fill the front of the items, and their rows that of the rows. A record is as long as items and rows both allow.
@@ -53,7 +53,7 @@ pub fn run_items(
         (record { rows = now (rows .entry); store = now (store .entry); scratch = now (scratch .entry) }) (now (items .entry)) r
         (record { rows = now (rows .exit); store = now (store .exit); scratch = now (scratch .exit) }) (now (items .exit)) ⌝ }
 {
-    let made = numbers::run_rows(
+    let made = rows::run_rows(
         text,
         start_type,
         flags,
@@ -96,7 +96,7 @@ pub fn repair_items(
         × (now («old_rows» .exit) ≡ packedIn (now («old_items» .entry)) (now («old_rows» .entry))) ⌝ }
 {
     pack_all(old_items, old_rows);
-    let made = numbers::repair_rows(
+    let made = rows::repair_rows(
         old_length,
         old_items.len(),
         old_rows,

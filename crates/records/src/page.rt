@@ -4,7 +4,7 @@ ghost use Rattle.scope.specs.Answers.{lent};
 ghost use Rattle.lexer.specs.FlagsOf.{flagsOf};
 ghost use Rattle.runs.specs.Calls.{runCall};
 ghost use Rattle.records.specs.Stored.{blank};
-ghost use Rattle.records.specs.Calls.{cutTo, Leaves};
+ghost use Rattle.records.specs.Calls.{cutTo, Leaves, pageItems};
 use crate::calls;
 use crate::stored::Stored;
 use lexer::flags::Flags;
@@ -14,7 +14,12 @@ use scope::scope::Scope;
 // What `run_items` answers, and its items.
 pub struct Page {
     pub made: Made,
-    pub items: [Stored; 32],
+    pub items: [Stored; Page::ITEMS],
+}
+
+impl Page {
+    // A text's record has two items more than it has characters.
+    pub const ITEMS: usize = 32;
 }
 
 // The record of a run over a text of at most thirty characters: a longer one is 9.
@@ -31,8 +36,8 @@ pub fn run_page(
     scratch: &mut [u32],
 ) -> Page
     ensures { λ r. ⌜ Leaves
-        (runCall (lent s (now (slots .entry)) (now (names .entry))) (cutTo 32 (record { rows = now (rows .entry); store = now (store .entry); scratch = now (scratch .entry) })) «start_type» (flagsOf flags) (now (text .entry)))
-        (record { rows = now (rows .entry); store = now (store .entry); scratch = now (scratch .entry) }) (replicate 32 blank) (r .made)
+        (runCall (lent s (now (slots .entry)) (now (names .entry))) (cutTo pageItems (record { rows = now (rows .entry); store = now (store .entry); scratch = now (scratch .entry) })) «start_type» (flagsOf flags) (now (text .entry)))
+        (record { rows = now (rows .entry); store = now (store .entry); scratch = now (scratch .entry) }) (replicate pageItems blank) (r .made)
         (record { rows = now (rows .exit); store = now (store .exit); scratch = now (scratch .exit) }) (r .items) ⌝ }
 {
     let none = Flags {
@@ -55,7 +60,7 @@ pub fn run_page(
         exponent: 0,
         extra: 0,
     };
-    let mut items = [blank; 32];
+    let mut items = [blank; Page::ITEMS];
     let made = calls::run_items(
         text,
         start_type,
