@@ -5,6 +5,7 @@ use mathlib.Core.List.{List, [], _∷_, map}
 use Prim.Native.Nat.{ℕ, _+_, _≤_}
 use native.Mathlib.Omega.{arith}
 use lib.Dec.{eqb}
+use mir.Val.{boolByte}
 use lib.ListN.{length, getD, take, drop, length-take, length-drop}
 use Rattle.reading.specs.Slices.{zeros}
 use Rattle.naming.proofs.PrefixLaws.{length-zeros}
@@ -44,6 +45,16 @@ rowWith b f n r =
 
 pub stored-flags : (r : List ℕ) {f : Flags} → flagsOf f ≡ bitFlags (getD r flagsAt 0) → storedWith (eqb (getD r refusedAt 0) 1) (flagsOf f) r ≡ storedOf r
 stored-flags r e = ap (λ g. storedWith (eqb (getD r refusedAt 0) 1) g r) e
+
+byte-is : (b : Bool) → boolByte b ≡ bit b
+byte-is true = refl
+byte-is false = refl
+
+pub row-flags : (i : Stored) {n : ℕ} → n ≡ flagBits (flagsOf (i .flags))
+    → boolByte (i .refused) ∷ i .number ∷ i .position ∷ n ∷ i .reach ∷ i .start ∷ i .length ∷ i .before ∷ i .after ∷ i .exponent ∷ i .extra ∷ [] ≡ rowFrom i
+row-flags i {n} e =
+    ap (λ m. boolByte (i .refused) ∷ i .number ∷ i .position ∷ m ∷ i .reach ∷ i .start ∷ i .length ∷ i .before ∷ i .after ∷ i .exponent ∷ i .extra ∷ []) e
+    ∙ ap (λ m. m ∷ i .number ∷ i .position ∷ flagBits (flagsOf (i .flags)) ∷ i .reach ∷ i .start ∷ i .length ∷ i .before ∷ i .after ∷ i .exponent ∷ i .extra ∷ []) (byte-is (i .refused))
 
 -- What is written reads back as the same item.
 pub stored-back : (i : Stored) → storedOf (rowFrom i) ≡ i

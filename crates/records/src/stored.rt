@@ -1,6 +1,5 @@
 // An item of a record as a struct: the eleven numbers of its row by name.
 ghost use mathlib.Core.Path.{_≡_};
-ghost use Rattle.runs.specs.Item as spec;
 ghost use Rattle.records.specs.Stored.{storedOf, rowFrom};
 use lexer::flags::Flags;
 use runs::item;
@@ -42,24 +41,14 @@ pub fn item_of(row: [u32; 11]) -> Stored
     }
 }
 
-fn bit(b: bool) -> u32
-    ensures { λ r. ⌜ r ≡ spec.bit b ⌝ }
-{
-    if b {
-        return 1;
-    }
-    0
-}
-
 // The row of a stored item.
 // Ruled out, among others: a value's start left out; the flags of another item.
 pub fn row_of(it: Stored) -> [u32; 11]
     ensures { λ r. ⌜ r ≡ rowFrom it ⌝ }
 {
-    let refused = bit(it.refused);
     let flags = item::flag_bits(it.flags);
     [
-        refused,
+        it.refused as u32,
         it.number,
         it.position,
         flags,
