@@ -67,11 +67,12 @@ impl From<ParserError> for DsntkError { fn from(e: ParserError) -> Self { Self(e
     ),
     (
         "lexer",
-        "
+        r#"
 thread_local! { static REACH: std::cell::Cell<usize> = const { std::cell::Cell::new(0) }; }
 
 /// One more than the largest index that was looked at.
-fn looked_at(index: usize) { REACH.with(|reach| reach.set(reach.get().max(index + 1))); }
+#[inline(always)]
+fn looked_at(index: usize) { if cfg!(feature = "reach") { REACH.with(|reach| reach.set(reach.get().max(index + 1))); } }
 
 /// The reach since it was last asked for.
 pub fn take_reach() -> usize { REACH.with(|reach| reach.replace(0)) }
@@ -82,7 +83,7 @@ impl Lexer<'_> {
   /// Skips whitespace and comments from a position on.
   pub fn skip_from(&mut self, position: usize) { self.position = position; self.read_input(); }
 }
-",
+"#,
     ),
 ];
 
@@ -97,6 +98,7 @@ fn main() {
         return;
     }
     println!("cargo::rustc-cfg=rust_is_here");
+    println!("cargo::metadata=here=true");
     let out = PathBuf::from(env::var("OUT_DIR").unwrap());
     let mut modules = String::new();
     for (package, file) in SOURCES {

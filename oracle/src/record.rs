@@ -48,7 +48,7 @@ const LAST: [TokenType; 3] = [TokenType::YyEof, TokenType::YyUndef, TokenType::Y
 
 impl Item {
     /// The item's eleven numbers; its value starts at `start` of the store.
-    fn row(&self, start: usize) -> [usize; 11] {
+    pub fn row(&self, start: usize) -> [usize; 11] {
         let [refused, number, flags, extra] = [self.refused as u32, self.number, self.flags, self.extra].map(|n| n as usize);
         let [before, after, exponent] = self.lengths;
         [refused, number, self.position, flags, self.reach, start, self.value.chars().count(), before, after, exponent, extra]
@@ -58,7 +58,7 @@ impl Item {
         !self.refused && types.iter().any(|t| t.clone() as u32 == self.number)
     }
 
-    fn ends_run(&self) -> bool {
+    pub fn ends_run(&self) -> bool {
         self.refused || self.is_token(&LAST)
     }
 
@@ -84,10 +84,11 @@ impl Item {
 impl Record {
     /// The number form: rows, and the store that their values stand in.
     pub fn packed(&self) -> (Vec<[usize; 11]>, String) {
-        let mut store = String::new();
+        let (mut store, mut start) = (String::new(), 0);
         let mut rows = vec![];
         for item in &self.items {
-            rows.push(item.row(store.chars().count()));
+            rows.push(item.row(start));
+            start += item.value.chars().count();
             store += &item.value;
         }
         (rows, store)
@@ -141,40 +142,68 @@ pub fn keep_panics() {
 /// Runs the Rust on a case, from the start token to the first YyEof, YyUndef, YyError, error or panic.
 /// None if the start type is no `TokenType`.
 pub fn run(case: &Case) -> Option<Record> {
-    let scope = scope_of(&case.scope);
-    let mut lexer = Lexer::new(&scope, TokenType::from_number(case.start as i32)?, &case.text);
-    let setters = [Lexer::set_unary_tests, Lexer::set_between, Lexer::set_type_name, Lexer::set_till_in, Lexer::set_after_dot];
-    for (_, set) in setters.iter().enumerate().filter(|(bit, _)| case.flags >> bit & 1 == 1) {
-        set(&mut lexer);
-    }
-    let mut items = vec![];
+    run_in(&scope_of(&case.scope), case.start, case.flags, &case.text)
+}
+
+/// The same in a scope that is built already.
+pub fn run_in(scope: &ParsingScope, start: u32, flags: u32, text: &str) -> Option<Record> {
+    let mut reader = Reader::new(scope, start, flags, text)?;
+    let mut items: Vec<Item> = vec![];
     loop {
-        let (position, flags) = (lexer.position(), flag_bits(&lexer));
+        let (item, end) = reader.next_item();
+        items.extend(item);
+        if end != End::Whole || items.last().is_some_and(Item::ends_run) {
+            return Some(Record { items, end });
+        }
+    }
+}
+
+/// The Rust's lexer over a text, asked for one item after the other.
+pub struct Reader<'a> {
+    lexer: Lexer<'a>,
+    text: &'a str,
+}
+
+impl<'a> Reader<'a> {
+    /// None if the start type is no `TokenType`.
+    pub fn new(scope: &'a ParsingScope, start: u32, flags: u32, text: &'a str) -> Option<Self> {
+        let lexer = Lexer::new(scope, TokenType::from_number(start as i32)?, text);
+        let mut reader = Self { lexer, text };
+        reader.set(flags);
+        Some(reader)
+    }
+
+    /// Sets flags; none is cleared.
+    pub fn set(&mut self, flags: u32) {
+        let setters = [Lexer::set_unary_tests, Lexer::set_between, Lexer::set_type_name, Lexer::set_till_in, Lexer::set_after_dot];
+        for (_, set) in setters.iter().enumerate().filter(|(bit, _)| flags >> bit & 1 == 1) {
+            set(&mut self.lexer);
+        }
+    }
+
+    /// The next item, and how the Rust came to it. Behind a panic nothing more can be asked.
+    pub fn next_item(&mut self) -> (Option<Item>, End) {
+        let (position, flags) = (self.lexer.position(), flag_bits(&self.lexer));
         take_reach();
-        let answer = panic::catch_unwind(AssertUnwindSafe(|| lexer.next_token()));
+        let answer = panic::catch_unwind(AssertUnwindSafe(|| self.lexer.next_token()));
         let reach = take_reach();
         let item = match answer {
             Ok(Ok((token_type, value))) => token(token_type, value),
             Ok(Err(error)) => refusal(&error),
             Err(_) => {
                 // Refusals clear `unary_tests` and keep the other flags.
-                let refused = Item { refused: true, position: lexer.position(), flags: flags & !UNARY_TESTS, reach, ..Item::default() };
-                let (last, end) = panicked(&mut lexer, case, position, refused);
-                items.extend(last);
-                return Some(Record { items, end });
+                let refused = Item { refused: true, position: self.lexer.position(), flags: flags & !UNARY_TESTS, reach, ..Item::default() };
+                return panicked(&mut self.lexer, self.text, position, refused);
             }
         };
-        items.push(Item { position: lexer.position(), flags: flag_bits(&lexer), reach, ..item });
-        if items.last().is_some_and(Item::ends_run) {
-            return Some(Record { items, end: End::Whole });
-        }
+        (Some(Item { position: self.lexer.position(), flags: flag_bits(&self.lexer), reach, ..item }), End::Whole)
     }
 }
 
 /// What 01 wants where the Rust panicked in the token from `position` on: 7, behind the first half's digits, 8, at the first part, or that the run goes on.
-fn panicked(lexer: &mut Lexer, case: &Case, position: usize, refused: Item) -> (Option<Item>, End) {
+fn panicked(lexer: &mut Lexer, text: &str, position: usize, refused: Item) -> (Option<Item>, End) {
     let message = MESSAGE.with(RefCell::take);
-    if message.starts_with("called `Option::unwrap()`") && lexer.position() + 2 > case.length() {
+    if message.starts_with("called `Option::unwrap()`") && lexer.position() + 2 > text.chars().count() {
         return (Some(Item { number: 7, ..refused }), End::Refused(message));
     }
     if message.starts_with("attempt to subtract") && refused.flags & TILL_IN != 0 {
@@ -220,18 +249,21 @@ fn refusal(DsntkError(message): &DsntkError) -> Item {
 }
 
 /// A fresh scope after some calls.
-fn scope_of(calls: &[ScopeCall]) -> ParsingScope {
+pub fn scope_of(calls: &[ScopeCall]) -> ParsingScope {
     let scope = ParsingScope::default();
-    for call in calls {
-        match call {
-            ScopeCall::Push(entries) => scope.push(context_of(entries)),
-            ScopeCall::Pop => drop(scope.pop()),
-            ScopeCall::SetEntryName(name) => scope.set_entry_name(Name::from(name)),
-            ScopeCall::SetContext(name, entries) => scope.set_context(Name::from(name), context_of(entries)),
-            ScopeCall::AddParsedName(name) => scope.add_parsed_name(Name::from(name)),
-        }
-    }
+    calls.iter().for_each(|call| change(&scope, call));
     scope
+}
+
+/// Makes one call on a scope.
+pub fn change(scope: &ParsingScope, call: &ScopeCall) {
+    match call {
+        ScopeCall::Push(entries) => scope.push(context_of(entries)),
+        ScopeCall::Pop => drop(scope.pop()),
+        ScopeCall::SetEntryName(name) => scope.set_entry_name(Name::from(name)),
+        ScopeCall::SetContext(name, entries) => scope.set_context(Name::from(name), context_of(entries)),
+        ScopeCall::AddParsedName(name) => scope.add_parsed_name(Name::from(name)),
+    }
 }
 
 /// The context of an entry list; the entries below one are those that follow it at a larger depth.
