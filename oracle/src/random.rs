@@ -81,7 +81,7 @@ pub fn edit(seed: u64) -> Edit {
     Edit { new: Case { text, ..old.clone() }, old, from, to, put }
 }
 
-fn start(r: &mut Random) -> u32 {
+pub fn start(r: &mut Random) -> u32 {
     match r.below(20) {
         0 => r.pick(&[0, 256, 257, 267, 310, 318]),
         1..4 => 258 + r.below(9) as u32,
@@ -89,12 +89,12 @@ fn start(r: &mut Random) -> u32 {
     }
 }
 
-fn flags(r: &mut Random) -> u32 {
+pub fn flags(r: &mut Random) -> u32 {
     if r.chance(40) { 0 } else { (0..5).map(|bit| (r.chance(40) as u32) << bit).sum() }
 }
 
 /// Some fragments, one behind the other.
-fn text(r: &mut Random) -> String {
+pub fn text(r: &mut Random) -> String {
     let mut text = String::new();
     for _ in 0..r.between(1, 7) {
         text += &fragment(r);
@@ -103,7 +103,7 @@ fn text(r: &mut Random) -> String {
     text.chars().take(LONGEST).collect()
 }
 
-fn fragment(r: &mut Random) -> String {
+pub fn fragment(r: &mut Random) -> String {
     match r.below(20) {
         0..8 => name(r),
         8..10 => number(r),
@@ -117,7 +117,7 @@ fn fragment(r: &mut Random) -> String {
 }
 
 /// Mostly a space; now and then a run that is longer than the window.
-fn blanks(r: &mut Random) -> String {
+pub fn blanks(r: &mut Random) -> String {
     let count = match r.below(12) {
         0..4 => 0,
         4..10 => 1,
@@ -128,7 +128,7 @@ fn blanks(r: &mut Random) -> String {
 }
 
 /// Any character: of ASCII, at the edges of classes, or of all.
-fn character(r: &mut Random) -> char {
+pub fn character(r: &mut Random) -> char {
     match r.below(4) {
         0 => r.between(0x20, 0x7E) as u8 as char,
         1 => r.pick(&edges()),
@@ -138,7 +138,7 @@ fn character(r: &mut Random) -> char {
 }
 
 /// Words and symbols, of which some make names that the grammar knows.
-fn name(r: &mut Random) -> String {
+pub fn name(r: &mut Random) -> String {
     let mut name = word(r);
     for _ in 0..r.between(0, 6) {
         match r.below(10) {
@@ -173,7 +173,7 @@ fn keyword(r: &mut Random) -> String {
     r.pick(&KEYWORDS).to_string() + &behind + r.pick(&["", " ", "(", "<", "=", "+", "x", ":", ")"])
 }
 
-fn digits(r: &mut Random, least: usize) -> String {
+pub fn digits(r: &mut Random, least: usize) -> String {
     let most = if r.chance(25) { 25 } else { 3 };
     (0..r.between(least, most)).map(|_| r.character("0123456789")).collect()
 }
@@ -223,7 +223,7 @@ fn comment(r: &mut Random) -> String {
 }
 
 /// A scope in which names of the text are often found, short and long.
-fn scope(r: &mut Random, text: &str) -> Vec<ScopeCall> {
+pub fn scope(r: &mut Random, text: &str) -> Vec<ScopeCall> {
     if r.chance(25) || text.is_empty() {
         return vec![];
     }

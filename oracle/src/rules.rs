@@ -296,24 +296,24 @@ fn flags() -> Vec<Case> {
     (0..32).flat_map(|flags| (0..texts.len()).map(move |i| case(flags, i))).collect()
 }
 
-fn variable(depth: u32, name: &str) -> Entry {
+pub fn variable(depth: u32, name: &str) -> Entry {
     Entry { depth, kind: 0, name: name.into() }
 }
 
-fn context(depth: u32, name: &str) -> Entry {
+pub fn context(depth: u32, name: &str) -> Entry {
     Entry { depth, kind: 1, name: name.into() }
 }
 
-fn named(name: &str) -> ScopeCall {
+pub fn named(name: &str) -> ScopeCall {
     ScopeCall::SetEntryName(name.into())
 }
 
-fn parsed(name: &str) -> ScopeCall {
+pub fn parsed(name: &str) -> ScopeCall {
     ScopeCall::AddParsedName(name.into())
 }
 
 /// Parts a context's name from what is below it, so that the flattening has " . " there. The name must end in two symbols.
-const DOT: &str = "\u{1680}.\u{1680} ";
+pub const DOT: &str = "\u{1680}.\u{1680} ";
 
 /// Scopes: nested contexts and their keys, replacing, popping, parsed names, `set_context`.
 fn scopes() -> Vec<Case> {
@@ -386,30 +386,32 @@ pub fn spellings(piece: &str) -> [String; 4] {
 
 /// Texts at and around 12, 128 and 16,384 characters, each of one long token or run.
 fn lengths() -> Vec<Case> {
-    let cases = |n: usize| {
-        let texts = [
-            ("word", "", "a", ""),
-            ("digits", "", "1", ""),
-            ("fraction", "1.", "5", ""),
-            ("string", "\"", "a", "\""),
-            ("open", "\"", "a", ""),
-            ("undefined", "\"", "a", "\n"),
-            ("blanks", "", " ", ""),
-            ("block", "/*", "a", "*/"),
-            ("line", "//", "a", ""),
-            ("name", "a", " ", "b"),
-            ("colon", "a", " ", ":"),
-            ("ahead", "list", " ", "<"),
-            ("escape", "\"", "a", "\\u12"),
-            ("half", "\"", "a", "\\uD83D"),
-        ];
-        let scope = if n < 1000 { vec![named(&"a".repeat(n.min(128))), named("a b")] } else { vec![] };
-        texts.map(|(kind, front, middle, back)| {
-            let text = format!("{front}{}{back}", middle.repeat(n - front.len() - back.len()));
-            Case::new(format!("length-{n}-{kind}"), text).with_scope(scope.clone())
-        })
-    };
-    [10, 11, 12, 13, 14, 126, 127, 128, 129, 130, 16_382, 16_383, 16_384].into_iter().flat_map(cases).collect()
+    [10, 11, 12, 13, 14, 126, 127, 128, 129, 130, 16_382, 16_383, 16_384].into_iter().flat_map(of_length).collect()
+}
+
+/// Texts of so many characters, at least eight, each of one long token or run.
+pub fn of_length(n: usize) -> [Case; 14] {
+    let texts = [
+        ("word", "", "a", ""),
+        ("digits", "", "1", ""),
+        ("fraction", "1.", "5", ""),
+        ("string", "\"", "a", "\""),
+        ("open", "\"", "a", ""),
+        ("undefined", "\"", "a", "\n"),
+        ("blanks", "", " ", ""),
+        ("block", "/*", "a", "*/"),
+        ("line", "//", "a", ""),
+        ("name", "a", " ", "b"),
+        ("colon", "a", " ", ":"),
+        ("ahead", "list", " ", "<"),
+        ("escape", "\"", "a", "\\u12"),
+        ("half", "\"", "a", "\\uD83D"),
+    ];
+    let scope = if n < 1000 { vec![named(&"a".repeat(n.min(128))), named("a b")] } else { vec![] };
+    texts.map(|(kind, front, middle, back)| {
+        let text = format!("{front}{}{back}", middle.repeat(n - front.len() - back.len()));
+        Case::new(format!("length-{n}-{kind}"), text).with_scope(scope.clone())
+    })
 }
 
 /// The inputs of 01's rules tried.
@@ -464,20 +466,20 @@ pub fn departures() -> Vec<Case> {
 }
 
 /// Pieces, of which all sequences of up to `most` are put behind `first`; under flags and in a scope.
-struct Alphabet {
-    name: &'static str,
-    first: &'static str,
-    pieces: &'static [&'static str],
+pub struct Alphabet {
+    pub name: &'static str,
+    pub first: &'static str,
+    pub pieces: &'static [&'static str],
     most: usize,
     flags: u32,
-    scope: fn() -> Vec<ScopeCall>,
+    pub scope: fn() -> Vec<ScopeCall>,
 }
 
-const fn alphabet(name: &'static str, first: &'static str, pieces: &'static [&'static str], most: usize) -> Alphabet {
+pub const fn alphabet(name: &'static str, first: &'static str, pieces: &'static [&'static str], most: usize) -> Alphabet {
     Alphabet { name, first, pieces, most, flags: 0, scope: Vec::new }
 }
 
-const ALPHABETS: [Alphabet; 9] = [
+pub const ALPHABETS: [Alphabet; 9] = [
     alphabet("number", "", &["1", ".", "e", "+", "-"], 4),
     alphabet("string", "\"", &["\\", "u", "U", "D83D", "DC00", "00", "\"", "\n"], 3),
     alphabet("pair", "\"\\uD83D", &["\\", "u", "U", "DC", "40", "\""], 4),
