@@ -37,6 +37,8 @@ impl Comparison for Edits {
         self.due += 1;
         tally.add("edits", 1);
         tally.add(kind(from, to, &put), 1);
+        tally.add("edits at the text's start", (from == 0) as u64);
+        tally.add("edits at the text's end", (to == self.text.len()) as u64);
         self.make(from, to, &put, number, tally)
     }
 

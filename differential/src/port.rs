@@ -38,6 +38,10 @@ impl Text {
     pub fn open(&mut self, bytes: &[u8], lent: usize) {
         self.answer = NO_ANSWER;
         paint(&mut self.cells, lent, PAINT);
+        self.open_unpainted(bytes);
+    }
+
+    pub fn open_unpainted(&mut self, bytes: &[u8]) {
         let Self { cells, answer, .. } = self;
         self.refusal = unsafe { sys::feel_open(bytes.as_ptr(), bytes.len(), cells.as_mut_ptr(), cells.len(), answer.as_mut_ptr(), 8) };
     }
@@ -166,7 +170,8 @@ pub struct Edit {
 }
 
 impl Record {
-    fn paint(&mut self, length: usize) {
+    /// Slices for a text of so many characters, painted.
+    pub fn paint(&mut self, length: usize) {
         self.answer = NO_ANSWER;
         paint(&mut self.rows, length + 2 + SPARE, [PAINT; 11]);
         paint(&mut self.store, length + SPARE, PAINT);
@@ -175,6 +180,10 @@ impl Record {
 
     pub fn run(&mut self, scope: &Scope, start: u32, flags: u32, text: &[u32]) {
         self.paint(text.len());
+        self.run_unpainted(scope, start, flags, text);
+    }
+
+    pub fn run_unpainted(&mut self, scope: &Scope, start: u32, flags: u32, text: &[u32]) {
         let Scope { counts, slots, names } = scope;
         let Self { rows, store, scratch, answer, .. } = self;
         #[rustfmt::skip]
@@ -189,8 +198,12 @@ impl Record {
 
     /// Makes this the repair of an old record; `part` is what is handed in of the new text.
     pub fn repair(&mut self, scope: &Scope, old: &Self, edit: Edit, part: &[u32]) {
+        self.paint(edit.length - (edit.to - edit.from) + edit.size);
+        self.repair_unpainted(scope, old, edit, part);
+    }
+
+    pub fn repair_unpainted(&mut self, scope: &Scope, old: &Self, edit: Edit, part: &[u32]) {
         let Edit { length, from, to, size } = edit;
-        self.paint(length - (to - from) + size);
         let Scope { counts, slots, names } = scope;
         let (old_rows, old_store) = (old.items(), old.values());
         let Self { rows, store, scratch, answer, .. } = self;
@@ -278,10 +291,19 @@ impl Lexer {
         self.state = [0, flags as usize, 1, start as usize];
     }
 
-    pub fn next_token(&mut self, scope: &Scope, text: &[u32]) {
+    /// Slices for a text of so many characters, painted.
+    pub fn paint(&mut self, length: usize) {
         self.answer = NO_ANSWER;
-        paint(&mut self.out, text.len() + SPARE, PAINT);
-        paint(&mut self.scratch, 2 * text.len() + SPARE, PAINT);
+        paint(&mut self.out, length + SPARE, PAINT);
+        paint(&mut self.scratch, 2 * length + SPARE, PAINT);
+    }
+
+    pub fn next_token(&mut self, scope: &Scope, text: &[u32]) {
+        self.paint(text.len());
+        self.next_unpainted(scope, text);
+    }
+
+    pub fn next_unpainted(&mut self, scope: &Scope, text: &[u32]) {
         let Scope { counts, slots, names } = scope;
         let Self { state, out, scratch, answer, .. } = self;
         #[rustfmt::skip]
