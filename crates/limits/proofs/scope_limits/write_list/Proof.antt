@@ -1,10 +1,10 @@
 -- The index stays within the array, so it fits a cell.
 use native.Mathlib.Omega.{arith}
 use Prim.Native.Nat.{_-_, _≤_}
-use Rattle.replay.proofs.scope_limits.write_list.Statement.{statement}
-use Rattle.replay.proofs.scope_limits.write_list.Tie as tie
-use Rattle.replay.proofs.scope_limits.write_list.Reads as reads
-use Rattle.replay.proofs.scope_limits.write_list.Lts as lts
+use Rattle.limits.proofs.scope_limits.write_list.Statement.{statement}
+use Rattle.limits.proofs.scope_limits.write_list.Tie as tie
+use Rattle.limits.proofs.scope_limits.write_list.Reads as reads
+use Rattle.limits.proofs.scope_limits.write_list.Lts as lts
 
 abbrev Inv-loop : tie.InvT-loop
 Inv-loop rows₀ i₀ rows i = i ≤ 514

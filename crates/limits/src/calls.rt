@@ -20,8 +20,8 @@ pub fn after(r: Changed, s: Scope) -> Scope {
 pub fn pushed(
     text: &[u8],
     s: Scope,
-    slots: &mut [[u32; 4]],
-    names: &mut [[u32; 128]],
+    slots: &mut [[u32; 4]; 768],
+    names: &mut [[u32; 128]; 768],
     rows: &[[u32; 4]],
     cells: &[u32],
 ) -> Scope {
@@ -30,13 +30,18 @@ pub fn pushed(
     after(r, s)
 }
 
-pub fn pushed_empty(text: &[u8], s: Scope, slots: &[[u32; 4]], names: &[[u32; 128]]) -> Scope {
+pub fn pushed_empty(
+    text: &[u8],
+    s: Scope,
+    slots: &[[u32; 4]; 768],
+    names: &[[u32; 128]; 768],
+) -> Scope {
     let r = stack::push_default(s, slots, names);
     say::answer(text, r);
     after(r, s)
 }
 
-pub fn popped(text: &[u8], s: Scope, slots: &[[u32; 4]], names: &[[u32; 128]]) -> Scope {
+pub fn popped(text: &[u8], s: Scope, slots: &[[u32; 4]; 768], names: &[[u32; 128]; 768]) -> Scope {
     let r = stack::pop(s, slots, names);
     say::answer(text, r);
     after(r, s)
@@ -45,8 +50,8 @@ pub fn popped(text: &[u8], s: Scope, slots: &[[u32; 4]], names: &[[u32; 128]]) -
 pub fn named(
     text: &[u8],
     s: Scope,
-    slots: &mut [[u32; 4]],
-    names: &mut [[u32; 128]],
+    slots: &mut [[u32; 4]; 768],
+    names: &mut [[u32; 128]; 768],
     name: &[u32],
 ) -> Scope {
     let r = naming::set_entry_name(s, slots, names, name);
@@ -57,8 +62,8 @@ pub fn named(
 pub fn context_named(
     text: &[u8],
     s: Scope,
-    slots: &mut [[u32; 4]],
-    names: &mut [[u32; 128]],
+    slots: &mut [[u32; 4]; 768],
+    names: &mut [[u32; 128]; 768],
     name: &[u32],
     rows: &[[u32; 4]],
     cells: &[u32],
@@ -71,8 +76,8 @@ pub fn context_named(
 pub fn added(
     text: &[u8],
     s: Scope,
-    slots: &mut [[u32; 4]],
-    names: &mut [[u32; 128]],
+    slots: &mut [[u32; 4]; 768],
+    names: &mut [[u32; 128]; 768],
     name: &[u32],
 ) -> Scope {
     let r = parsed::add_parsed_name(s, slots, names, name);
@@ -88,6 +93,12 @@ fn has(s: Scope, slots: &[[u32; 4]], names: &[[u32; 128]], text: &[u32]) -> bool
     keys::is_name(s, slots, names, text)
 }
 
-pub fn asked(text: &[u8], s: Scope, slots: &[[u32; 4]], names: &[[u32; 128]], name: &[u32]) {
+pub fn asked(
+    text: &[u8],
+    s: Scope,
+    slots: &[[u32; 4]; 768],
+    names: &[[u32; 128]; 768],
+    name: &[u32],
+) {
     say::name(text, has(s, slots, names, name));
 }

@@ -54,8 +54,8 @@ fn write_list(rows: &mut [[u32; 4]; 514]) {
 
 fn pushed(
     text: &[u8],
-    slots: &mut [[u32; 4]],
-    names: &mut [[u32; 128]],
+    slots: &mut [[u32; 4]; 768],
+    names: &mut [[u32; 128]; 768],
     rows: &[[u32; 4]; 514],
     cells: &[u32; 514],
 ) -> Scope {
@@ -63,7 +63,7 @@ fn pushed(
 }
 
 // A list that is over the limit as it stands, and within it once repeats are replaced; the scope with 512 entries that it leaves.
-fn entries(slots: &mut [[u32; 4]], names: &mut [[u32; 128]]) -> Scope {
+fn entries(slots: &mut [[u32; 4]; 768], names: &mut [[u32; 128]; 768]) -> Scope {
     say::words(b"Entries\n");
     let mut cells = [0u32; 514];
     write_cells(&mut cells);
@@ -114,7 +114,7 @@ fn full() {
     calls::added(b"a parsed name", more, &mut slots, &mut names, &X);
 }
 
-fn all_contexts(slots: &[[u32; 4]], names: &[[u32; 128]]) -> Scope {
+fn all_contexts(slots: &[[u32; 4]; 768], names: &[[u32; 128]; 768]) -> Scope {
     let mut s = Scope::opened();
     let mut i: usize = 0;
     while i < 31 {
@@ -146,7 +146,7 @@ fn contexts() {
 }
 
 // A scope with 256 parsed names, from 0x4E00 on.
-fn all_parsed(slots: &mut [[u32; 4]], names: &mut [[u32; 128]]) -> Scope {
+fn all_parsed(slots: &mut [[u32; 4]; 768], names: &mut [[u32; 128]; 768]) -> Scope {
     let mut s = Scope::opened();
     let mut i: usize = 0;
     while i < 256 {
@@ -384,7 +384,8 @@ fn lent() {
         parsed: 0,
     };
     calls::popped(b"33 contexts", over, &slots, &names);
-    calls::popped(b"767 rows", Scope::opened(), &slots[0..767], &names);
+    let short = stack::pop(Scope::opened(), &slots[0..767], &names);
+    say::answer(b"767 rows", short);
     slots[0] = [1, 0, 0, 129];
     let used = Scope {
         contexts: 1,

@@ -1,19 +1,17 @@
--- The loop counts to 256; the rows stay as many.
+-- The loop counts to 256.
 use native.Mathlib.Omega.{arith}
 use borrow.Author.Needs.{needs}
 use Prim.Native.Nat.{_-_, _≤_}
-use mathlib.Core.Path.{_≡_, refl}
-use lib.ListN.{length}
-use Rattle.replay.proofs.scope_limits.all_parsed.Statement.{statement}
-use Rattle.replay.proofs.scope_limits.all_parsed.Tie as tie
-use Rattle.replay.proofs.scope_limits.all_parsed.Reads as reads
-use Rattle.replay.proofs.scope_limits.all_parsed.Lts as lts
-use Rattle.replay.proofs.calls.after.Reads as after-reads
+use Rattle.limits.proofs.scope_limits.all_parsed.Statement.{statement}
+use Rattle.limits.proofs.scope_limits.all_parsed.Tie as tie
+use Rattle.limits.proofs.scope_limits.all_parsed.Reads as reads
+use Rattle.limits.proofs.scope_limits.all_parsed.Lts as lts
+use Rattle.limits.proofs.calls.after.Reads as after-reads
 use Rattle.scope_calls.proofs.parsed.add_parsed_name.Reads as add-parsed-name-reads
 use Rattle.scope.proofs.scope.Scope.opened.Reads as opened-reads
 
 abbrev Inv-loop : tie.InvT-loop
-Inv-loop slots₀ names₀ s₀ i₀ slots names s i = (i ≤ 256) × (length slots ≡ length slots₀) × (length names ≡ length names₀)
+Inv-loop slots₀ names₀ s₀ i₀ slots names s i = i ≤ 256
 
 abbrev μ-loop : tie.MeasureT-loop
 μ-loop slots₀ names₀ s₀ i₀ slots names s i = 256 - i
@@ -22,7 +20,7 @@ opened-requires : tie.Need-opened-requires Inv-loop μ-loop
 opened-requires c κs = search needs
 
 loop-holds : tie.Need-loop-holds Inv-loop μ-loop
-loop-holds c = (omega arith, refl, refl)
+loop-holds c = omega arith
 
 cast-t7 : tie.Need-cast-t7 Inv-loop μ-loop
 cast-t7 c = omega arith
@@ -48,12 +46,6 @@ loop-less c = omega arith
 loop-again : tie.Need-loop-again Inv-loop μ-loop
 loop-again c = omega arith
 
-same-length : tie.Need-same-length Inv-loop μ-loop
-same-length c = omega arith
-
-same-length-2 : tie.Need-same-length-2 Inv-loop μ-loop
-same-length-2 c = omega arith
-
 returns : tie.Need-returns Inv-loop μ-loop
 returns c = tt
 
@@ -73,6 +65,4 @@ all-parsed-spec =
     add-i
     loop-less
     loop-again
-    same-length
-    same-length-2
     returns)

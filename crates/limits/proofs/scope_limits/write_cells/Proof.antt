@@ -1,10 +1,10 @@
 -- The index stays within the array, so no number wraps.
 use native.Mathlib.Omega.{arith}
 use Prim.Native.Nat.{_-_, _≤_}
-use Rattle.replay.proofs.scope_limits.write_cells.Statement.{statement}
-use Rattle.replay.proofs.scope_limits.write_cells.Tie as tie
-use Rattle.replay.proofs.scope_limits.write_cells.Reads as reads
-use Rattle.replay.proofs.scope_limits.write_cells.Lts as lts
+use Rattle.limits.proofs.scope_limits.write_cells.Statement.{statement}
+use Rattle.limits.proofs.scope_limits.write_cells.Tie as tie
+use Rattle.limits.proofs.scope_limits.write_cells.Reads as reads
+use Rattle.limits.proofs.scope_limits.write_cells.Lts as lts
 
 abbrev Inv-loop : tie.InvT-loop
 Inv-loop cells₀ i₀ cells i = i ≤ 514
