@@ -5,6 +5,7 @@ use crate::case::Case;
 use crate::definitions::{Equation, LONGEST, Scratch};
 use crate::random::{edit, random};
 use crate::record::{End, Record, keep_panics, run};
+use crate::replay;
 use crate::rules::{departures, rules, short};
 use std::collections::BTreeMap;
 use std::io;
@@ -17,6 +18,7 @@ const USAGE: &str = "\
 oracle check                          the stored answers against the Rust
 oracle definitions [RANDOM [EDITS]]   the definitions against the Rust, as computed equations
 oracle answers                        prints the stored answers anew
+oracle replay                         writes what the program crates/replay reads and must print
 oracle show NAME...                   prints cases by their names, with the Rust's records
 oracle run                            reads cases in their text form, prints each with the Rust's record
 ";
@@ -36,6 +38,7 @@ pub fn main() -> ExitCode {
             print!("{}", answers::text());
             Ok(true)
         }
+        ["replay"] => replay::write().map(|()| true),
         ["show", names @ ..] => show(names),
         ["run"] => run_lines(),
         _ => Err(io::Error::other(USAGE)),
@@ -50,7 +53,8 @@ pub fn main() -> ExitCode {
     }
 }
 
-/// Runs each stored case anew and compares its line. The file must also be what `answers` prints, so that its names give its cases.
+/// Runs each stored case anew and compares its line. The file must also be what `answers` prints, so that its names give its cases,
+/// and the files of crates/replay what `replay` writes.
 fn check() -> io::Result<bool> {
     let stored = fs::read_to_string(answers::FILE)?;
     let mut records = vec![];
@@ -69,7 +73,11 @@ fn check() -> io::Result<bool> {
     if !as_printed {
         println!("{} is not what `answers` prints", answers::FILE);
     }
-    Ok(differ == 0 && as_printed && records.iter().all(|record| !matches!(record.end, End::Unexplained(_))))
+    let stale = replay::stale()?;
+    for path in &stale {
+        println!("{path} is not what `replay` writes");
+    }
+    Ok(differ == 0 && as_printed && stale.is_empty() && records.iter().all(|record| !matches!(record.end, End::Unexplained(_))))
 }
 
 /// The case at the front of a line with the Rust's record, as a line again.

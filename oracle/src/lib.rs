@@ -14,6 +14,8 @@ pub mod random;
 #[cfg(rust_is_here)]
 pub mod record;
 #[cfg(rust_is_here)]
+pub mod replay;
+#[cfg(rust_is_here)]
 pub mod rules;
 #[cfg(rust_is_here)]
 pub mod stand_in;

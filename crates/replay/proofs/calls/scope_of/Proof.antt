@@ -1,0 +1,64 @@
+-- What is left falls; the rows stay as many.
+use native.Mathlib.Omega.{arith}
+use lib.ListN.{length}
+use mathlib.Core.Path.{_≡_, refl}
+use Rattle.replay.proofs.calls.scope_of.Statement.{statement}
+use Rattle.replay.proofs.calls.scope_of.Tie as tie
+use Rattle.replay.proofs.calls.scope_of.Reads as reads
+use Rattle.replay.proofs.calls.scope_of.Lts as lts
+use Rattle.replay.proofs.calls.call.Reads as call-reads
+use Rattle.replay.proofs.fields.read_decimal.Reads as read-decimal-reads
+use Rattle.scope.proofs.scope.Scope.opened.Reads as opened-reads
+
+abbrev Inv-loop : tie.InvT-loop
+Inv-loop line from slots₀ names₀ s₀ at₀ left₀ slots names s at left = (length slots ≡ length slots₀) × (length names ≡ length names₀)
+
+abbrev μ-loop : tie.MeasureT-loop
+μ-loop line from slots₀ names₀ s₀ at₀ left₀ slots names s at left = left
+
+read-decimal-requires : tie.Need-read-decimal-requires Inv-loop μ-loop
+read-decimal-requires c κs = tt
+
+opened-requires : tie.Need-opened-requires Inv-loop μ-loop
+opened-requires c κs = tt
+
+loop-holds : tie.Need-loop-holds Inv-loop μ-loop
+loop-holds c = omega arith
+
+call-requires : tie.Need-call-requires Inv-loop μ-loop
+call-requires c κs = tt
+
+sub-left : tie.Need-sub-left Inv-loop μ-loop
+sub-left c = omega arith
+
+loop-less : tie.Need-loop-less Inv-loop μ-loop
+loop-less c = omega arith
+
+loop-again : tie.Need-loop-again Inv-loop μ-loop
+loop-again c = omega arith
+
+same-length : tie.Need-same-length Inv-loop μ-loop
+same-length c = omega arith
+
+same-length-2 : tie.Need-same-length-2 Inv-loop μ-loop
+same-length-2 c = omega arith
+
+returns : tie.Need-returns Inv-loop μ-loop
+returns c = tt
+
+pub scope-of-spec : {M : Type 1} → statement M
+scope-of-spec =
+    tie.close
+    (tie.spec
+    Inv-loop
+    μ-loop
+    read-decimal-requires
+    opened-requires
+    loop-holds
+    call-requires
+    sub-left
+    loop-less
+    loop-again
+    same-length
+    same-length-2
+    returns)

@@ -1,0 +1,132 @@
+// A scope from its calls, as a case gives them.
+ghost use Prim.Native.Nat.{_≤_};
+ghost use lib.ListN.{length};
+use crate::fields;
+use scope::scope::Changed;
+use scope::scope::Scope;
+
+// An entry list was read: how many rows it has, and where the next field begins.
+pub struct List {
+    pub count: usize,
+    pub next: usize,
+}
+
+// A call was made: the scope after it, and where the next field begins.
+pub struct Called {
+    pub scope: Scope,
+    pub next: usize,
+}
+
+// The start or the length of a name as a cell; the names of a list have far fewer characters.
+fn cell(n: usize) -> u32 {
+    (n % 65_536) as u32
+}
+
+// Reads an entry list of so many entries, as far as there is room; their names stand one behind the other in the cells.
+fn read_list(
+    line: &[u8],
+    from: usize,
+    entries: u32,
+    rows: &mut [[u32; 4]],
+    cells: &mut [u32],
+) -> List
+    ensures { λ r. ⌜ r .count ≤ length (now (rows .exit)) ⌝ }
+{
+    let mut n: usize = 0;
+    let mut k: usize = 0;
+    let mut at = from;
+    let mut left = entries;
+    while 0 < left {
+        if rows.len() <= n {
+            return List { count: n, next: at };
+        }
+        let depth = fields::read_decimal(line, at);
+        let kind = fields::read_decimal(line, depth.next);
+        let name = fields::read_cells(line, kind.next, cells, k);
+        rows[n] = [depth.value, kind.value, cell(k), cell(name.end - k)];
+        k = name.end;
+        at = name.next;
+        n += 1;
+        left -= 1;
+    }
+    List { count: n, next: at }
+}
+
+// 0 push, 1 pop, 2 set_entry_name, 3 set_context, 4 add_parsed_name.
+fn made(
+    call: u32,
+    s: Scope,
+    slots: &mut [[u32; 4]],
+    names: &mut [[u32; 128]],
+    name: &[u32],
+    rows: &[[u32; 4]],
+    cells: &[u32],
+) -> Changed {
+    match call {
+        0 => scope_calls::push::push(s, slots, names, rows, cells),
+        1 => scope_calls::stack::pop(s, slots, names),
+        2 => scope_calls::naming::set_entry_name(s, slots, names, name),
+        3 => scope_calls::naming::set_context(s, slots, names, name, rows, cells),
+        _ => scope_calls::parsed::add_parsed_name(s, slots, names, name),
+    }
+}
+
+// A refused call leaves the scope that was; no case has one.
+fn after(r: Changed, s: Scope) -> Scope {
+    match r {
+        Changed::Done(next) => next,
+        Changed::Refused(_) => s,
+    }
+}
+
+// Reads and makes one call.
+fn call(
+    line: &[u8],
+    from: usize,
+    s: Scope,
+    slots: &mut [[u32; 4]],
+    names: &mut [[u32; 128]],
+) -> Called {
+    let mut name = [0u32; 128];
+    let mut rows = [[0u32; 4]; 64];
+    let mut cells = [0u32; 1024];
+    let number = fields::read_decimal(line, from);
+    let n = fields::read_cells(line, number.next, &mut name, 0);
+    let entries = fields::read_decimal(line, n.next);
+    let l = read_list(line, entries.next, entries.value, &mut rows, &mut cells);
+    let end = n.end;
+    let count = l.count;
+    let r = made(
+        number.value,
+        s,
+        slots,
+        names,
+        &name[..end],
+        &rows[..count],
+        &cells,
+    );
+    Called {
+        scope: after(r, s),
+        next: l.next,
+    }
+}
+
+// A fresh scope after the calls that a case gives.
+pub fn scope_of(
+    line: &[u8],
+    from: usize,
+    slots: &mut [[u32; 4]],
+    names: &mut [[u32; 128]],
+) -> Scope {
+    let count = fields::read_decimal(line, from);
+    let mut s = Scope::opened();
+    let mut at = count.next;
+    let mut left = count.value;
+    while 0 < left {
+        let c = call(line, at, s, slots, names);
+        s = c.scope;
+        at = c.next;
+        left -= 1;
+    }
+    s
+}

@@ -1,0 +1,147 @@
+// The fields of a line, parted by single spaces: decimal numbers, and texts as code points in hexadecimal.
+ghost use Prim.Native.Nat.{_≤_};
+ghost use lib.ListN.{length};
+
+// A number, and where the next field begins.
+pub struct Number {
+    pub value: u32,
+    pub next: usize,
+}
+
+// Where the cells of a text end in the output, and where the next field begins.
+pub struct Cells {
+    pub end: usize,
+    pub next: usize,
+}
+
+// Where the field behind the next space begins.
+pub fn next_field(line: &[u8], from: usize) -> usize {
+    let mut i = from;
+    while i < line.len() {
+        if line[i] == b' ' {
+            return i + 1;
+        }
+        i += 1;
+    }
+    i
+}
+
+fn wide(b: u8) -> u32 {
+    b as u32
+}
+
+// A digit behind others, in base 10 or 16; no number of a case has more than seven.
+fn appended(n: u32, base: u32, d: u32) -> u32
+    requires { ⌜ d ≤ 16 ⌝ }
+{
+    if base == 10 {
+        return n % 0x100_0000 * 10 + d;
+    }
+    n % 0x100_0000 * 16 + d
+}
+
+// The number whose digits begin here, and the place behind them.
+fn read_number(line: &[u8], base: u32, from: usize) -> Number
+    requires { ⌜ base ≤ 16 ⌝ }
+    ensures { λ r. ⌜ from ≤ r .next ⌝ }
+{
+    let mut n: u32 = 0;
+    let mut i = from;
+    while i < line.len() {
+        let d = text::hex::hex_to_decimal(wide(line[i]));
+        if base <= d {
+            return Number { value: n, next: i };
+        }
+        n = appended(n, base, d);
+        i += 1;
+    }
+    Number { value: n, next: i }
+}
+
+// A number that is a field of its own.
+pub fn read_decimal(line: &[u8], from: usize) -> Number {
+    let n = read_number(line, 10, from);
+    let next = next_field(line, n.next);
+    Number {
+        value: n.value,
+        next,
+    }
+}
+
+// How often a code point stands there: as often as the number behind a star says, or once.
+fn read_times(line: &[u8], from: usize) -> Number
+    ensures { λ r. ⌜ from ≤ r .next ⌝ }
+{
+    let once = Number {
+        value: 1,
+        next: from,
+    };
+    if line.len() <= from {
+        return once;
+    }
+    if line[from] != b'*' {
+        return once;
+    }
+    read_number(line, 16, from + 1)
+}
+
+// Writes a cell so often, from a place on, as far as there is room; answers the place behind.
+fn fill(out: &mut [u32], from: usize, c: u32, times: u32) -> usize
+    requires { ⌜ from ≤ length (now out) ⌝ }
+    ensures { λ r. ⌜ (from ≤ r) × (r ≤ length (now (out .exit))) ⌝ }
+{
+    let mut k = from;
+    let mut left = times;
+    while 0 < left {
+        if out.len() <= k {
+            return k;
+        }
+        out[k] = c;
+        k += 1;
+        left -= 1;
+    }
+    k
+}
+
+// Writes the code points that begin here, joined by commas, from a place of the output on.
+fn read_code_points(line: &[u8], from: usize, out: &mut [u32], start: usize) -> Cells
+    requires { ⌜ start ≤ length (now out) ⌝ }
+    ensures { λ r. ⌜ (start ≤ r .end) × (r .end ≤ length (now (out .exit))) ⌝ }
+{
+    let mut k = start;
+    let mut i = from;
+    while i < line.len() {
+        let c = read_number(line, 16, i);
+        let n = read_times(line, c.next);
+        k = fill(out, k, c.value, n.value);
+        i = n.next;
+        if line.len() <= i {
+            return Cells { end: k, next: i };
+        }
+        if line[i] != b',' {
+            return Cells { end: k, next: i };
+        }
+        i += 1;
+    }
+    Cells { end: k, next: i }
+}
+
+// Writes the cells of a text, `-` or code points, from a place of the output on.
+pub fn read_cells(line: &[u8], from: usize, out: &mut [u32], start: usize) -> Cells
+    requires { ⌜ start ≤ length (now out) ⌝ }
+    ensures { λ r. ⌜ (start ≤ r .end) × (r .end ≤ length (now (out .exit))) ⌝ }
+{
+    let none = Cells {
+        end: start,
+        next: next_field(line, from),
+    };
+    if line.len() <= from {
+        return none;
+    }
+    if line[from] == b'-' {
+        return none;
+    }
+    let c = read_code_points(line, from, out, start);
+    let next = next_field(line, c.next);
+    Cells { end: c.end, next }
+}
