@@ -1,7 +1,7 @@
 -- The calls over items are the calls over rows, with the rows that were made read as items, and old items written as rows before.
 use mathlib.Core.Path.{_≡_, refl, sym, ap, _∙_, subst}
 use mathlib.Core.Bool.{Bool, true, false, cond}
-use mathlib.Core.List.{List, [], _∷_, map}
+use mathlib.Core.List.{List, map}
 use Prim.Native.Nat.{ℕ, _≤_, zero-le}
 use native.Mathlib.Nat.{le-refl}
 use lib.Dec.{ltb}

@@ -1,19 +1,19 @@
 -- A record cut to the items lent is written to the front of all rows: what the used rows leave over stays behind it.
 use mathlib.Core.Path.{_≡_, refl, sym, ap, _∙_, subst}
 use mathlib.Core.Bool.{Bool, true, false, cond}
-use mathlib.Core.List.{List, [], _∷_, _++_, append-assoc}
-use Prim.Native.Nat.{ℕ, _+_, _-_, _≤_, _<_, min, zero-le}
+use mathlib.Core.List.{List, _++_, append-assoc}
+use Prim.Native.Nat.{ℕ, _≤_, _<_, min, zero-le}
 use native.Mathlib.Omega.{arith}
 use lib.Dec.{ltb}
 use borrow.Author.Tests.{lt-ltb, le-ltb, ltb-true, ltb-false}
-use lib.ListN.{length, take, drop, length-append, length-take, length-drop, take-append-drop}
+use lib.ListN.{length, take, drop, length-append, take-append-drop}
 use lib.Seq.{take-all, length-take-le, drop-append-le}
 use Rattle.reading.specs.Slices.{front, zeros}
 use Rattle.text.specs.Refusals.{shortSlice}
 use Rattle.scope.specs.Lent.{Lent}
 use Rattle.lexer.specs.Flags.{Flags}
 use Rattle.runs.specs.declared.call.Made.{Made}
-use Rattle.runs.specs.declared.call.Made.the-variants.{Record, Refused}
+use Rattle.runs.specs.declared.call.Made.the-variants.{Refused}
 use Rattle.runs.specs.Request.{Request}
 use Rattle.runs.specs.Calls.{Room, Answer, made, refused, roomAfter, runCall, repairCall}
 use Rattle.runs.specs.Ran.{Ran, answerOf}

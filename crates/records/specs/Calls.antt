@@ -8,11 +8,10 @@ use lib.ListN.{length, take}
 use Rattle.reading.specs.Slices.{front}
 use Rattle.text.specs.Refusals.{shortSlice}
 use Rattle.scope.specs.Lent.{Lent}
-use Rattle.lexer.specs.Flags.{Flags}
 use Rattle.runs.specs.declared.call.Made.{Made}
 use Rattle.runs.specs.declared.call.Made.the-variants.{Record, Refused}
 use Rattle.runs.specs.Request.{Request}
-use Rattle.runs.specs.Calls.{Room, Answer, made, refused, roomAfter, runCall, repairCall}
+use Rattle.runs.specs.Calls.{Room, Answer, made, refused, roomAfter, repairCall}
 use Rattle.runs.specs.Ran.{answerOf}
 use Rattle.records.specs.declared.stored.Stored.{Stored}
 use Rattle.records.specs.Stored.{storedOf, rowFrom}

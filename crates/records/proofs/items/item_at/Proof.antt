@@ -1,5 +1,5 @@
 -- A walk by hand: the place of the element is computed, the slice is looked into, the element is taken out of its row, copied whole and put back, and the slice is shut.
-use mathlib.Core.Path.{_≡_, refl, sym}
+use mathlib.Core.Path.{refl, sym}
 use Prim.Native.Nat.{ℕ, _<_, _^_}
 use mathlib.Core.List.{List, [], _∷_}
 use lib.ListN.{length, getD}

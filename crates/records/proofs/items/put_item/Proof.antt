@@ -1,5 +1,5 @@
 -- A walk by hand: the place of the element is computed, the borrow is opened, the element is taken out of its row and stored to, and the borrow is closed at the list with the item in it.
-use mathlib.Core.Path.{_≡_, refl, sym, ap, subst}
+use mathlib.Core.Path.{refl, sym, ap, subst}
 use Prim.Native.Nat.{ℕ, _<_, _^_}
 use mathlib.Core.List.{List, [], _∷_}
 use lib.ListN.{length, set, length-set}
