@@ -1,5 +1,5 @@
 -- The record program: what it prints for the bytes that it reads.
-use mathlib.Core.Bool.{true, false, cond}
+use mathlib.Core.Bool.{Bool, true, false, cond}
 use mathlib.Core.List.{List, [], _∷_, _++_}
 use Prim.Native.Nat.{ℕ, zero, suc, _+_, _/_, _%_}
 use lib.Dec.{ltb, eqb}
@@ -39,17 +39,28 @@ joinedByComma [] = []
 joinedByComma (c ∷ []) = hexadecimal c
 joinedByComma (c ∷ d ∷ cs) = hexadecimal c ++ codes "," ++ joinedByComma (d ∷ cs)
 
--- Numbers as before/after/sign/exponent; names and strings as `=` and code points; Booleans; the carries of 3, 5 and 6; others as `-`.
+-- Digits before and after the point, the exponent's sign (1 is a minus) and its digits, of a value with so many before and after.
+abbrev pub numberField : ℕ → ℕ → ℕ → List ℕ → List ℕ
+numberField before after sign value =
+    take before value ++ codes "/" ++ take after (drop before value) ++ codes "/" ++ cond (eqb sign 1) (codes "-") (codes "+") ++ codes "/" ++ drop (before + after) value
+
+abbrev pub truthField : ℕ → List ℕ
+truthField truth = cond (eqb truth 1) (codes "true") (codes "false")
+
+-- 01: 3, 5 and 6 carry a character or a value.
+abbrev pub hasCarry : ℕ → Bool
+hasCarry n = isOneOf (noHexDigit ∷ noScalarValue ∷ noSecondHalf ∷ []) n
+
+abbrev pub carryField : ℕ → ℕ → List ℕ
+carryField n carry = cond (hasCarry n) (hexadecimal carry) (codes "-")
+
+-- Numbers as before/after/sign/exponent; names and strings as `=` and code points; Booleans; carries; others as `-`.
 abbrev pub valueField : Item → List ℕ
 valueField i =
-    let before = i .lengths .before in
-    let after = i .lengths .after in
-    let carries = isOneOf (noHexDigit ∷ noScalarValue ∷ noSecondHalf ∷ []) (i .number) in
-    cond (i .isRefusal) (cond carries (hexadecimal (i .extra)) (codes "-"))
-    (cond (eqb TokenType.Numeric (i .number))
-    (take before (i .value) ++ codes "/" ++ take after (drop before (i .value)) ++ codes "/" ++ cond (eqb (i .extra) 1) (codes "-") (codes "+") ++ codes "/" ++ drop (before + after) (i .value))
+    cond (i .isRefusal) (carryField (i .number) (i .extra))
+    (cond (eqb TokenType.Numeric (i .number)) (numberField (i .lengths .before) (i .lengths .after) (i .extra) (i .value))
     (cond (isOneOf textTypes (i .number)) (codes "=" ++ joinedByComma (i .value))
-    (cond (eqb TokenType.Boolean (i .number)) (cond (eqb (i .extra) 1) (codes "true") (codes "false"))
+    (cond (eqb TokenType.Boolean (i .number)) (truthField (i .extra))
     (codes "-"))))
 
 -- 01: item, type (R and number if refused), position, reach, value.
