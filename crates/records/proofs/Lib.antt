@@ -8,3 +8,4 @@ pub mod ReadBack
 pub mod Values
 pub mod CallsLaws
 pub mod ItemsAgree
+pub mod ItemsCases
