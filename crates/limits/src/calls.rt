@@ -1,5 +1,5 @@
 // The scope calls, each printed with its answer; what they give back is the scope after it.
-use crate::say;
+use crate::answers;
 use scope::broken;
 use scope::keys;
 use scope::scope::Changed;
@@ -26,7 +26,7 @@ pub fn pushed(
     cells: &[u32],
 ) -> Scope {
     let r = push::push(s, slots, names, rows, cells);
-    say::answer(text, r);
+    answers::answer(text, r);
     after(r, s)
 }
 
@@ -37,13 +37,13 @@ pub fn pushed_empty(
     names: &[[u32; 128]; 768],
 ) -> Scope {
     let r = stack::push_default(s, slots, names);
-    say::answer(text, r);
+    answers::answer(text, r);
     after(r, s)
 }
 
 pub fn popped(text: &[u8], s: Scope, slots: &[[u32; 4]; 768], names: &[[u32; 128]; 768]) -> Scope {
     let r = stack::pop(s, slots, names);
-    say::answer(text, r);
+    answers::answer(text, r);
     after(r, s)
 }
 
@@ -55,7 +55,7 @@ pub fn named(
     name: &[u32],
 ) -> Scope {
     let r = naming::set_entry_name(s, slots, names, name);
-    say::answer(text, r);
+    answers::answer(text, r);
     after(r, s)
 }
 
@@ -69,7 +69,7 @@ pub fn context_named(
     cells: &[u32],
 ) -> Scope {
     let r = naming::set_context(s, slots, names, name, rows, cells);
-    say::answer(text, r);
+    answers::answer(text, r);
     after(r, s)
 }
 
@@ -81,7 +81,7 @@ pub fn added(
     name: &[u32],
 ) -> Scope {
     let r = parsed::add_parsed_name(s, slots, names, name);
-    say::answer(text, r);
+    answers::answer(text, r);
     after(r, s)
 }
 
@@ -100,5 +100,5 @@ pub fn asked(
     names: &[[u32; 128]; 768],
     name: &[u32],
 ) {
-    say::name(text, has(s, slots, names, name));
+    answers::name(text, has(s, slots, names, name));
 }

@@ -1,6 +1,6 @@
-// Runs the code at the limits that 01 names and prints what it answers, a line a call. The file `stdout` has what 01 says.
+// Runs the scope calls at the limits that 01 names and prints what it answers, a line a call. The file `stdout` has what 01 says.
+mod answers; // answers.rt: answers printed
 mod calls; // calls.rt: the scope calls, printed
-mod say; // say.rt: words, numbers and answers printed
 mod scope_limits; // scope_limits.rt: the trials of the scope calls
 
 fn main() {

@@ -1,6 +1,6 @@
 // The scope calls at their limits, each trial in rows of its own.
+use crate::answers;
 use crate::calls;
-use crate::say;
 use scope::scope::Changed;
 use scope::scope::Scope;
 use scope_calls::parsed;
@@ -129,7 +129,7 @@ fn contexts() {
     let mut slots = [[0u32; 4]; 768];
     let mut names = [[0u32; 128]; 768];
     let s = all_contexts(&slots, &names);
-    say::answer(b"31 contexts pushed onto the first", Changed::Done(s));
+    answers::answer(b"31 contexts pushed onto the first", Changed::Done(s));
     calls::pushed_empty(b"an empty one more", s, &slots, &names);
     calls::pushed(b"a list more", s, &mut slots, &mut names, &FIRST, &ABC);
     calls::pushed(
@@ -162,7 +162,7 @@ fn parsed_names() {
     let mut slots = [[0u32; 4]; 768];
     let mut names = [[0u32; 128]; 768];
     let s = all_parsed(&mut slots, &mut names);
-    say::answer(b"256 parsed names", Changed::Done(s));
+    answers::answer(b"256 parsed names", Changed::Done(s));
     calls::added(b"one of them again", s, &mut slots, &mut names, &[0x4E64]);
     calls::added(b"a 257th", s, &mut slots, &mut names, &[0x4F00]);
     calls::added(b"a broken one", s, &mut slots, &mut names, &BAD);
@@ -385,7 +385,7 @@ fn lent() {
     };
     calls::popped(b"33 contexts", over, &slots, &names);
     let short = stack::pop(Scope::opened(), &slots[0..767], &names);
-    say::answer(b"767 rows", short);
+    answers::answer(b"767 rows", short);
     slots[0] = [1, 0, 0, 129];
     let used = Scope {
         contexts: 1,

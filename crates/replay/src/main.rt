@@ -6,7 +6,6 @@ ghost use lib.ListN.{length};
 mod calls; // calls.rt: a scope from its calls
 mod fields; // fields.rt: numbers and texts from their fields
 mod record; // record.rt: a record printed
-mod say; // say.rt: words and numbers printed
 
 use runs::call::Made;
 use runs::item;

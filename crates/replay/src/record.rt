@@ -1,7 +1,6 @@
 // A record printed in the text form, behind its case: how the Rust's run ended, the rows, the value store.
 ghost use Prim.Native.Nat.{_+_, _<_, _≤_};
 ghost use lib.ListN.{length};
-use crate::say;
 use runs::item::Item;
 
 fn wide(n: u32) -> usize {
@@ -19,20 +18,10 @@ fn panicked(last: [u32; 11]) -> usize {
     }
 }
 
-// A row's eleven numbers.
-fn row(r: [u32; 11]) {
-    let mut i: usize = 0;
-    while i < 11 {
-        say::words(b" ");
-        say::decimal(wide(r[i]));
-        i += 1;
-    }
-}
-
 fn rows(all: &[[u32; 11]]) {
     let mut i: usize = 0;
     while i < all.len() {
-        row(all[i]);
+        say::row(all[i]);
         i += 1;
     }
 }

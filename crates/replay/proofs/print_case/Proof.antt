@@ -11,7 +11,7 @@ use Rattle.replay.proofs.fields.next_field.Reads as next-field-reads
 use Rattle.replay.proofs.fields.read_cells.Reads as read-cells-reads
 use Rattle.replay.proofs.fields.read_decimal.Reads as read-decimal-reads
 use Rattle.replay.proofs.print_run.Reads as print-run-reads
-use Rattle.replay.proofs.say.words.Reads as words-reads
+use Rattle.say.proofs.words.Reads as words-reads
 
 next-field-requires : tie.Need-next-field-requires
 next-field-requires c κs = search needs

@@ -6,7 +6,7 @@ use Rattle.replay.proofs.record.rows.Statement.{statement}
 use Rattle.replay.proofs.record.rows.Tie as tie
 use Rattle.replay.proofs.record.rows.Reads as reads
 use Rattle.replay.proofs.record.rows.Lts as lts
-use Rattle.replay.proofs.record.row.Reads as row-reads
+use Rattle.say.proofs.row.Reads as row-reads
 
 abbrev Inv-loop : tie.InvT-loop
 Inv-loop all i₀ i = i ≤ length all

@@ -7,7 +7,7 @@ use Rattle.replay.proofs.record.store.Tie as tie
 use Rattle.replay.proofs.record.store.Reads as reads
 use Rattle.replay.proofs.record.store.Lts as lts
 use Rattle.replay.proofs.record.piece.Reads as piece-reads
-use Rattle.replay.proofs.say.words.Reads as words-reads
+use Rattle.say.proofs.words.Reads as words-reads
 
 abbrev Inv-loop : tie.InvT-loop
 Inv-loop cells i₀ t5 t6 i = i ≤ length cells

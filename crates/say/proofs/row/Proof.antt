@@ -1,13 +1,13 @@
 -- The index stays within the eleven numbers.
 use native.Mathlib.Omega.{arith}
 use Prim.Native.Nat.{_-_, _≤_}
-use Rattle.replay.proofs.record.row.Statement.{statement}
-use Rattle.replay.proofs.record.row.Tie as tie
-use Rattle.replay.proofs.record.row.Reads as reads
-use Rattle.replay.proofs.record.row.Lts as lts
-use Rattle.replay.proofs.record.wide.Reads as wide-reads
-use Rattle.replay.proofs.say.decimal.Reads as decimal-reads
-use Rattle.replay.proofs.say.words.Reads as words-reads
+use Rattle.say.proofs.row.Statement.{statement}
+use Rattle.say.proofs.row.Tie as tie
+use Rattle.say.proofs.row.Reads as reads
+use Rattle.say.proofs.row.Lts as lts
+use Rattle.say.proofs.wide.Reads as wide-reads
+use Rattle.say.proofs.decimal.Reads as decimal-reads
+use Rattle.say.proofs.words.Reads as words-reads
 
 abbrev Inv-loop : tie.InvT-loop
 Inv-loop r i₀ t4 i = i ≤ 11
