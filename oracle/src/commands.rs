@@ -3,6 +3,7 @@
 use crate::answers;
 use crate::case::Case;
 use crate::definitions::{Equation, LONGEST, Scratch};
+use crate::program;
 use crate::random::{edit, random};
 use crate::record::{End, Record, keep_panics, run};
 use crate::replay;
@@ -17,11 +18,15 @@ use std::{env, fs};
 const USAGE: &str = "\
 oracle check                          the stored answers against the Rust
 oracle definitions [RANDOM [EDITS]]   the definitions against the Rust, as computed equations
+oracle program [TEXTS]                the record program, built before, against the Rust
 oracle answers                        prints the stored answers anew
 oracle replay                         writes what the program crates/replay reads and must print
 oracle show NAME...                   prints cases by their names, with the Rust's records
 oracle run                            reads cases in their text form, prints each with the Rust's record
 ";
+
+/// Where `rt check print_record` puts the record program.
+const PROGRAM: &str = concat!(env!("CARGO_MANIFEST_DIR"), "/../target/bin/print_record");
 
 pub fn main() -> ExitCode {
     keep_panics();
@@ -33,6 +38,10 @@ pub fn main() -> ExitCode {
         ["definitions", ..] if words.len() < 4 => match (number(1, 2000), number(2, 500)) {
             (Some(random), Some(edits)) => definitions(random, edits),
             _ => Err(io::Error::other(USAGE)),
+        },
+        ["program", ..] if words.len() < 3 => match number(1, 10_000) {
+            Some(texts) => program::compare(Path::new(PROGRAM), texts),
+            None => Err(io::Error::other(USAGE)),
         },
         ["answers"] => {
             print!("{}", answers::text());

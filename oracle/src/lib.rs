@@ -10,6 +10,8 @@ pub mod commands;
 #[cfg(rust_is_here)]
 pub mod definitions;
 #[cfg(rust_is_here)]
+pub mod program;
+#[cfg(rust_is_here)]
 pub mod random;
 #[cfg(rust_is_here)]
 pub mod record;

@@ -107,14 +107,22 @@ impl Record {
         format!("{end} {}{numbers} {}", rows.len(), cells(&store))
     }
 
-    /// The lines of the record program, with the flags before the reach, and the panic.
+    /// The lines of the record program.
+    pub fn lines(&self) -> String {
+        self.lines_with(|_| String::new())
+    }
+
+    /// The same with the flags before the reach, and the panic.
     pub fn printed(&self) -> String {
-        let mut lines = String::new();
-        for (n, item) in self.items.iter().enumerate() {
+        self.lines_with(|item| format!("{} ", item.flags)) + &self.panic().map_or(String::new(), |panic| format!("the Rust panics, {panic}\n"))
+    }
+
+    fn lines_with(&self, before_reach: impl Fn(&Item) -> String) -> String {
+        let line = |(n, item): (usize, &Item)| {
             let refused = if item.refused { "R" } else { "" };
-            lines += &format!("{n} {refused}{} {} {} {} {}\n", item.number, item.position, item.flags, item.reach, item.printed_value());
-        }
-        lines + &self.panic().map_or(String::new(), |panic| format!("the Rust panics, {panic}\n"))
+            format!("{n} {refused}{} {} {}{} {}\n", item.number, item.position, before_reach(item), item.reach, item.printed_value())
+        };
+        self.items.iter().enumerate().map(line).collect()
     }
 
     /// The panic that ended the run: its entry in docs/DIFFERENCES.md and its message.
