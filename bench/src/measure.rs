@@ -11,11 +11,14 @@ bench instructions [WORDS]    the same, counted by valgrind over one go of each 
 bench once port|other NAME    one go of one side
 ";
 
-/// A sample is at least this long, a line has at most so many, and ends at this time if it has a few.
+/// All lines are measured in so many rounds, some minutes apart, and their samples taken together.
+const ROUNDS: usize = 3;
+
+/// A sample is at least this long. In a round a line has at most so many, and ends at this time if it has a few.
 const SAMPLE: Duration = Duration::from_millis(2);
-const SAMPLES: usize = 101;
-const LINE: Duration = Duration::from_secs(6);
-const FEW: usize = 5;
+const SAMPLES: usize = 51;
+const LINE: Duration = Duration::from_secs(3);
+const FEW: usize = 3;
 
 pub fn main() -> ExitCode {
     let words: Vec<String> = env::args().skip(1).collect();
@@ -34,18 +37,21 @@ pub fn main() -> ExitCode {
 }
 
 fn times(lines: Vec<Line>) {
-    println!("| line | port | against | takes | ratio | quartiles | samples |\n|---|---|---|---|---|---|---|");
-    for Line { name, against, sides } in lines {
-        let (mut port, mut other) = sides();
-        let taken = samples(&mut port, other.as_mut());
-        let port = shown(quartile(&taken, 2, |pair| pair.0));
-        if other.is_none() {
-            println!("| {name} | {port} | | | | | {} |", taken.len());
-            continue;
+    let mut taken = vec![vec![]; lines.len()];
+    for _ in 0..ROUNDS {
+        for (line, taken) in lines.iter().zip(&mut taken) {
+            let (mut port, mut other) = (line.sides)();
+            taken.extend(samples(&mut port, other.as_mut()));
         }
-        let takes = shown(quartile(&taken, 2, |pair| pair.1));
-        let [low, ratio, high] = [1, 2, 3].map(|which| quartile(&taken, which, |pair| pair.1 / pair.0));
-        println!("| {name} | {port} | {against} | {takes} | {ratio:.1} | {low:.1} to {high:.1} | {} |", taken.len());
+    }
+    println!("| line | port | against | takes | ratio | quartiles | samples |\n|---|---|---|---|---|---|---|");
+    for (Line { name, against, .. }, taken) in lines.iter().zip(&taken) {
+        let [port, takes] = [quartile(taken, 2, |pair| pair.0), quartile(taken, 2, |pair| pair.1)].map(time);
+        let [low, middle, high] = [1, 2, 3].map(|which| ratio(quartile(taken, which, |pair| pair.1 / pair.0)));
+        match taken[0].1 {
+            0.0 => println!("| {name} | {port} | | | | | {} |", taken.len()),
+            _ => println!("| {name} | {port} | {against} | {takes} | {middle} | {low} to {high} | {} |", taken.len()),
+        }
     }
 }
 
@@ -100,12 +106,17 @@ fn quartile(taken: &[(f64, f64)], which: usize, of: impl Fn(&(f64, f64)) -> f64)
     values[(values.len() - 1) * which / 4]
 }
 
-fn shown(seconds: f64) -> String {
+fn time(seconds: f64) -> String {
     match seconds {
-        ..1e-3 => format!("{:.2} us", seconds * 1e6),
-        ..1.0 => format!("{:.2} ms", seconds * 1e3),
-        _ => format!("{seconds:.2} s"),
+        ..1e-4 => format!("{:.1} us", seconds * 1e6),
+        ..1e-3 => format!("{:.0} us", seconds * 1e6),
+        ..0.1 => format!("{:.1} ms", seconds * 1e3),
+        _ => format!("{:.0} ms", seconds * 1e3),
     }
+}
+
+fn ratio(ratio: f64) -> String {
+    if ratio < 10.0 { format!("{ratio:.2}") } else { format!("{ratio:.0}") }
 }
 
 /// What valgrind counts, by its name.
@@ -118,16 +129,15 @@ pub extern "C" fn measured(side: &mut Side) {
 fn once(which: &str, name: &str) {
     let line = lines().into_iter().find(|line| line.name == name).expect("a line of that name");
     let (port, other) = (line.sides)();
-    let mut side = if which == "port" { port } else { other.expect("a side that comes to an end") };
-    measured(&mut side);
+    let side = if which == "port" { Some(port) } else { other };
+    side.into_iter().for_each(|mut side| measured(&mut side));
 }
 
 fn instructions(lines: Vec<Line>) -> io::Result<()> {
     println!("| line | port | against | takes | ratio |\n|---|---|---|---|---|");
     for Line { name, against, .. } in lines.into_iter().filter(|line| line.against == "the Rust") {
-        let [port, other] = ["port", "other"].map(|side| counted(side, &name));
-        let (port, other) = (port?, other?);
-        println!("| {name} | {port} | {against} | {other} | {:.1} |", other as f64 / port as f64);
+        let (port, other) = (counted("port", &name)?, counted("other", &name)?);
+        println!("| {name} | {port} | {against} | {other} | {} |", ratio(other as f64 / port as f64));
     }
     Ok(())
 }
