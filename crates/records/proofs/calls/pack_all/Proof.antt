@@ -140,6 +140,7 @@ module _ {M : Type 1} (𝓤 : URA M) (H : Heap 𝓤) (A : Atoms 𝓤) (W : Given
         enter ! C Λ code.function (s₁ ∷ s₂ ∷ []) _ $
         alloc1 ! (λ l₀. alloc1 ! (λ l₁. alloc1 ! (λ l₂. alloc1 ! (λ l₃. alloc1 ! (λ l₄. alloc1 ! (λ l₅. alloc1 ! (λ l₆. alloc1 ! (λ l₇. alloc1 ! (λ l₈. alloc0 ! $ params1 ! $
         pass1 ! (init ! 14 refl (tt, (tt, (record { fits = room₁ .0 }, tt)))) $ pass1 ! (init ! 12 refl (tt, (tt, (record { fits = room₂ .0 }, tt)))) $ pass0 ! $
+        -- local i stands at 2 · (8 − i), behind what is put in front
         assigns ! (of-opd ! (load ! (from ! (fld ! refl (stop !))) (look-in ! 14 (sub ! 1 refl (whole !))))) (from ! (stop !)) (init ! 8 refl (tt, record { fits = room₁ .0 })) $
         assigns ! (of-opd ! (load ! (from ! (fld ! refl (stop !))) (look-in ! 12 (sub ! 1 refl (whole !))))) (from ! (stop !)) (init ! 6 refl (tt, record { fits = room₂ .0 })) $
         -- how many items are written

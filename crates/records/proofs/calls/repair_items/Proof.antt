@@ -265,6 +265,7 @@ module _ {M : Type 1} (𝓤 : URA M) (H : Heap 𝓤) (A : Atoms 𝓤) (W : Given
         enter ! C Λ code.function (vint w64 size₀ ∷ s₂ ∷ s₃ ∷ s₄ ∷ vint w64 from′ ∷ vint w64 to′ ∷ vint w64 size′ ∷ s₈ ∷ scopeVal sc ∷ s₁₀ ∷ s₁₁ ∷ s₁₂ ∷ s₁₃ ∷ s₁₄ ∷ s₁₅ ∷ []) _ $
         alloc1 ! (λ l₀. alloc1 ! (λ l₁. alloc1 ! (λ l₂. alloc1 ! (λ l₃. alloc1 ! (λ l₄. alloc1 ! (λ l₅. alloc1 ! (λ l₆. alloc1 ! (λ l₇. alloc1 ! (λ l₈. alloc1 ! (λ l₉. alloc1 ! (λ l₁₀. alloc1 ! (λ l₁₁. alloc1 ! (λ l₁₂. alloc1 ! (λ l₁₃. alloc1 ! (λ l₁₄. alloc1 ! (λ l₁₅. alloc1 ! (λ l₁₆. alloc1 ! (λ l₁₇. alloc1 ! (λ l₁₈. alloc1 ! (λ l₁₉. alloc1 ! (λ l₂₀. alloc1 ! (λ l₂₁. alloc1 ! (λ l₂₂. alloc1 ! (λ l₂₃. alloc1 ! (λ l₂₄. alloc1 ! (λ l₂₅. alloc1 ! (λ l₂₆. alloc1 ! (λ l₂₇. alloc1 ! (λ l₂₈. alloc1 ! (λ l₂₉. alloc1 ! (λ l₃₀. alloc1 ! (λ l₃₁. alloc1 ! (λ l₃₂. alloc1 ! (λ l₃₃. alloc0 ! $ params1 ! $
         pass1 ! (init ! 64 refl (tt, record { fits = fits-size₀ })) $ pass1 ! (init ! 62 refl (tt, (tt, (record { fits = room₂ .0 }, tt)))) $ pass1 ! (init ! 60 refl (tt, (tt, (record { fits = room₃ .0 }, tt)))) $ pass1 ! (init ! 58 refl (tt, (tt, (record { fits = room₄ .0 }, tt)))) $ pass1 ! (init ! 56 refl (tt, record { fits = fits-from′ })) $ pass1 ! (init ! 54 refl (tt, record { fits = fits-to′ })) $ pass1 ! (init ! 52 refl (tt, record { fits = fits-size′ })) $ pass1 ! (init ! 50 refl (tt, (tt, (record { fits = room₈ .0 }, tt)))) $ pass1 ! (init ! 48 refl (scope-typed 𝓤 H A W sc _ is-sc)) $ pass1 ! (init ! 46 refl (tt, (tt, (record { fits = room₁₀ .0 }, tt)))) $ pass1 ! (init ! 44 refl (tt, (tt, (record { fits = room₁₁ .0 }, tt)))) $ pass1 ! (init ! 42 refl (tt, (tt, (record { fits = room₁₂ .0 }, tt)))) $ pass1 ! (init ! 40 refl (tt, (tt, (record { fits = room₁₃ .0 }, tt)))) $ pass1 ! (init ! 38 refl (tt, (tt, (record { fits = room₁₄ .0 }, tt)))) $ pass1 ! (init ! 36 refl (tt, (tt, (record { fits = room₁₅ .0 }, tt)))) $ pass0 ! $
+        -- local i stands at 2 · (33 − i), behind what is put in front
         assigns ! (addr ! (from ! (fld ! refl (hop ! (look-in ! 60 (sub ! 0 refl (whole !))) (stop !))))) (from ! (stop !)) (init ! 30 refl (tt, tt)) $
         assigns ! (agg ! (and-then ! (load ! (from ! (stop !)) (look ! 30 refl)) (and-then ! (load ! (from ! (fld ! refl (stop !))) (look-in ! 60 (sub ! 1 refl (whole !)))) (no-more !)))) (from ! (stop !)) (init ! 28 refl (tt, (tt, (record { fits = room₃ .0 }, tt)))) $
         -- the old rows are lent on to be written, for a lifetime ν of the call

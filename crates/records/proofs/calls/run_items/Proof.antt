@@ -209,6 +209,7 @@ module _ {M : Type 1} (𝓤 : URA M) (H : Heap 𝓤) (A : Atoms 𝓤) (W : Given
         enter ! C Λ code.function (s₁ ∷ vint w32 k ∷ flagsVal fl ∷ scopeVal sc ∷ s₅ ∷ s₆ ∷ s₇ ∷ s₈ ∷ s₉ ∷ s₁₀ ∷ []) _ $
         alloc1 ! (λ l₀. alloc1 ! (λ l₁. alloc1 ! (λ l₂. alloc1 ! (λ l₃. alloc1 ! (λ l₄. alloc1 ! (λ l₅. alloc1 ! (λ l₆. alloc1 ! (λ l₇. alloc1 ! (λ l₈. alloc1 ! (λ l₉. alloc1 ! (λ l₁₀. alloc1 ! (λ l₁₁. alloc1 ! (λ l₁₂. alloc1 ! (λ l₁₃. alloc1 ! (λ l₁₄. alloc1 ! (λ l₁₅. alloc1 ! (λ l₁₆. alloc1 ! (λ l₁₇. alloc1 ! (λ l₁₈. alloc1 ! (λ l₁₉. alloc1 ! (λ l₂₀. alloc1 ! (λ l₂₁. alloc1 ! (λ l₂₂. alloc1 ! (λ l₂₃. alloc0 ! $ params1 ! $
         pass1 ! (init ! 44 refl (tt, (tt, (record { fits = room₁ .0 }, tt)))) $ pass1 ! (init ! 42 refl (tt, record { fits = fits-k })) $ pass1 ! (init ! 40 refl (flags-typed 𝓤 H A W fl _ is-fl)) $ pass1 ! (init ! 38 refl (scope-typed 𝓤 H A W sc _ is-sc)) $ pass1 ! (init ! 36 refl (tt, (tt, (record { fits = room₅ .0 }, tt)))) $ pass1 ! (init ! 34 refl (tt, (tt, (record { fits = room₆ .0 }, tt)))) $ pass1 ! (init ! 32 refl (tt, (tt, (record { fits = room₇ .0 }, tt)))) $ pass1 ! (init ! 30 refl (tt, (tt, (record { fits = room₈ .0 }, tt)))) $ pass1 ! (init ! 28 refl (tt, (tt, (record { fits = room₉ .0 }, tt)))) $ pass1 ! (init ! 26 refl (tt, (tt, (record { fits = room₁₀ .0 }, tt)))) $ pass0 ! $
+        -- local i stands at 2 · (23 − i), behind what is put in front
         assigns ! (of-opd ! (load ! (from ! (fld ! refl (stop !))) (look-in ! 32 (sub ! 1 refl (whole !))))) (from ! (stop !)) (init ! 22 refl (tt, record { fits = room₇ .0 })) $
         assigns ! (addr ! (from ! (fld ! refl (hop ! (look-in ! 30 (sub ! 0 refl (whole !))) (stop !))))) (from ! (stop !)) (init ! 20 refl (tt, tt)) $
         assigns ! (agg ! (and-then ! (load ! (from ! (stop !)) (look ! 20 refl)) (and-then ! (load ! (from ! (fld ! refl (stop !))) (look-in ! 30 (sub ! 1 refl (whole !)))) (no-more !)))) (from ! (stop !)) (init ! 18 refl (tt, (tt, (record { fits = room₈ .0 }, tt)))) $

@@ -131,6 +131,7 @@ module _ {M : Type 1} (𝓤 : URA M) (H : Heap 𝓤) (A : Atoms 𝓤) (W : Given
         enter ! C Λ code.function (madeVal m ∷ s₂ ∷ s₃ ∷ []) _ $
         alloc1 ! (λ l₀. alloc1 ! (λ l₁. alloc1 ! (λ l₂. alloc1 ! (λ l₃. alloc1 ! (λ l₄. alloc1 ! (λ l₅. alloc1 ! (λ l₆. alloc1 ! (λ l₇. alloc0 ! $ params1 ! $
         pass1 ! (init ! 12 refl (made-typed 𝓤 H A W m _ is₁)) $ pass1 ! (init ! 10 refl (tt, (tt, (record { fits = room₂ .0 }, tt)))) $ pass1 ! (init ! 8 refl (tt, (tt, (record { fits = room₃ .0 }, tt)))) $ pass0 ! $
+        -- local i stands at 2 · (7 − i), behind what is put in front
         -- how many rows were made
         move ! (16 ∷ []) $ use1 W (raw (RowsMade 𝓤 H A mem run .pre to-count)) asks-count $
         calls-at ! fm (RowsMade 𝓤 H A mem run) knows-count to-count (and-then ! (load ! (from ! (stop !)) (look ! 13 refl)) (no-more !)) (λ w.

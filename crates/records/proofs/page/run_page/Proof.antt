@@ -226,6 +226,7 @@ module _ {M : Type 1} (𝓤 : URA M) (H : Heap 𝓤) (A : Atoms 𝓤) (W : Given
         enter ! C Λ code.function (s₁ ∷ vint w32 k ∷ flagsVal fl ∷ scopeVal sc ∷ s₅ ∷ s₆ ∷ s₇ ∷ s₈ ∷ s₉ ∷ []) _ $
         alloc1 ! (λ l₀. alloc1 ! (λ l₁. alloc1 ! (λ l₂. alloc1 ! (λ l₃. alloc1 ! (λ l₄. alloc1 ! (λ l₅. alloc1 ! (λ l₆. alloc1 ! (λ l₇. alloc1 ! (λ l₈. alloc1 ! (λ l₉. alloc1 ! (λ l₁₀. alloc1 ! (λ l₁₁. alloc1 ! (λ l₁₂. alloc1 ! (λ l₁₃. alloc1 ! (λ l₁₄. alloc1 ! (λ l₁₅. alloc1 ! (λ l₁₆. alloc1 ! (λ l₁₇. alloc1 ! (λ l₁₈. alloc1 ! (λ l₁₉. alloc1 ! (λ l₂₀. alloc1 ! (λ l₂₁. alloc1 ! (λ l₂₂. alloc0 ! $ params1 ! $
         pass1 ! (init ! 42 refl (tt, (tt, (record { fits = room₁ .0 }, tt)))) $ pass1 ! (init ! 40 refl (tt, record { fits = fits-k })) $ pass1 ! (init ! 38 refl (flags-typed 𝓤 H A W fl _ is-fl)) $ pass1 ! (init ! 36 refl (scope-typed 𝓤 H A W sc _ is-sc)) $ pass1 ! (init ! 34 refl (tt, (tt, (record { fits = room₅ .0 }, tt)))) $ pass1 ! (init ! 32 refl (tt, (tt, (record { fits = room₆ .0 }, tt)))) $ pass1 ! (init ! 30 refl (tt, (tt, (record { fits = room₇ .0 }, tt)))) $ pass1 ! (init ! 28 refl (tt, (tt, (record { fits = room₈ .0 }, tt)))) $ pass1 ! (init ! 26 refl (tt, (tt, (record { fits = room₉ .0 }, tt)))) $ pass0 ! $
+        -- local i stands at 2 · (22 − i), behind what is put in front
         -- the array of blank items is made
         assigns ! (agg ! (and-then ! (false-lit !) (and-then ! (false-lit !) (and-then ! (false-lit !) (and-then ! (false-lit !) (and-then ! (false-lit !) (no-more !))))))) (from ! (stop !)) (init ! 24 refl (flags-typed 𝓤 H A W (blank .flags) _ none-is)) $
         assigns ! (agg ! (and-then ! (false-lit !) (and-then ! (lit ! tt) (and-then ! (lit ! tt) (and-then ! (load ! (from ! (stop !)) (look ! 24 refl)) (and-then ! (lit ! tt) (and-then ! (lit ! tt) (and-then ! (lit ! tt) (and-then ! (lit ! tt) (and-then ! (lit ! tt) (and-then ! (lit ! tt) (and-then ! (lit ! tt) (no-more !))))))))))))) (from ! (stop !)) (init ! 22 refl (typed 𝓤 H A W blank _ blank-is)) $
