@@ -1,0 +1,70 @@
+-- The index stays below the end, so no number wraps.
+use native.Mathlib.Omega.{arith}
+use Prim.Native.Nat.{_-_, _≤_}
+use lib.ListN.{length}
+use Rattle.refusals.proofs.filled.same_slots.Statement.{statement}
+use Rattle.refusals.proofs.filled.same_slots.Tie as tie
+use Rattle.refusals.proofs.filled.same_slots.Reads as reads
+use Rattle.refusals.proofs.filled.same_slots.Lts as lts
+use Rattle.scope.proofs.compare.same_cells.Reads as same-cells-reads
+
+abbrev Inv-loop : tie.InvT-loop
+Inv-loop a b i₀ i = i ≤ length a
+
+abbrev μ-loop : tie.MeasureT-loop
+μ-loop a b i₀ i = length a - i
+
+loop-holds : tie.Need-loop-holds Inv-loop μ-loop
+loop-holds c = omega arith
+
+returns : tie.Need-returns Inv-loop μ-loop
+returns c = tt
+
+mul-same-cells : tie.Need-mul-same-cells Inv-loop μ-loop
+mul-same-cells c = omega arith
+
+shared-slice-element-same-cells : tie.Need-shared-slice-element-same-cells Inv-loop μ-loop
+shared-slice-element-same-cells c = omega arith
+
+mul-same-cells-2 : tie.Need-mul-same-cells-2 Inv-loop μ-loop
+mul-same-cells-2 c = omega arith
+
+shared-slice-element-same-cells-2 : tie.Need-shared-slice-element-same-cells-2 Inv-loop μ-loop
+shared-slice-element-same-cells-2 c = omega arith
+
+same-cells-requires : tie.Need-same-cells-requires Inv-loop μ-loop
+same-cells-requires c κs = omega arith
+
+returns-2 : tie.Need-returns-2 Inv-loop μ-loop
+returns-2 c = tt
+
+add-i : tie.Need-add-i Inv-loop μ-loop
+add-i c = omega arith
+
+loop-less : tie.Need-loop-less Inv-loop μ-loop
+loop-less c = omega arith
+
+loop-again : tie.Need-loop-again Inv-loop μ-loop
+loop-again c = omega arith
+
+returns-3 : tie.Need-returns-3 Inv-loop μ-loop
+returns-3 c = tt
+
+pub same-slots-spec : {M : Type 1} → statement M
+same-slots-spec =
+    tie.close
+    (tie.spec
+    Inv-loop
+    μ-loop
+    loop-holds
+    returns
+    mul-same-cells
+    shared-slice-element-same-cells
+    mul-same-cells-2
+    shared-slice-element-same-cells-2
+    same-cells-requires
+    returns-2
+    add-i
+    loop-less
+    loop-again
+    returns-3)

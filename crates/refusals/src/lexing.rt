@@ -1,0 +1,173 @@
+// The token call: refused by the host, at the limits of a text, and refused by the text.
+use crate::filled;
+use crate::lent;
+use crate::lent::FILL;
+use crate::told;
+use lexer::token::Read;
+use runs::item;
+use tokens::call::Called;
+use tokens::call::Lexer;
+
+// All flags are set.
+fn state(position: usize, pending: bool) -> Lexer {
+    let flags = item::bit_flags(31);
+    Lexer {
+        position,
+        flags,
+        pending,
+        start_type: 258,
+    }
+}
+
+// 01: 3, 5 and 6 carry something.
+fn carry(n: u32, c: u32) {
+    match n {
+        3 | 5 | 6 => {
+            say::words(b", carry ");
+            say::hexadecimal(c);
+        }
+        _ => {}
+    }
+}
+
+fn token(k: u32, place: usize) {
+    told::number(b"token ", k as usize);
+    told::number(b" at ", place);
+}
+
+// What was read, and its place.
+fn read(r: Read, place: usize) {
+    match r {
+        Read::Plain(k) => token(k, place),
+        Read::Boolean(_) => token(289, place),
+        Read::Numeric(_, _, _, _) => token(287, place),
+        Read::Chars(k, n) => {
+            token(k, place);
+            told::number(b", value cells ", n);
+        }
+        Read::Refused(n, c) => {
+            told::refused(n);
+            told::number(b" at ", place);
+            carry(n, c);
+        }
+    }
+}
+
+// How many cells of the output a name fills.
+fn value_cells(r: Read) -> usize {
+    match r {
+        Read::Chars(_, n) => n,
+        _ => 0,
+    }
+}
+
+fn state_after(l: Lexer) {
+    told::number(b"; position ", l.position);
+    told::number(b", flags ", item::flag_bits(l.flags) as usize);
+    if l.pending {
+        say::words(b", start due");
+        return;
+    }
+    say::words(b", no start due");
+}
+
+// The answer for an output that was filled before the call; whether scratch is zero after it.
+fn answer(c: Called, out: &[u32], zero: bool) {
+    let r = c.read;
+    read(r, c.place);
+    state_after(c.next);
+    told::kept(
+        b"; rest of output",
+        filled::is_filled(out, value_cells(r), FILL),
+    );
+    told::cleared(zero);
+}
+
+// A call on the first n characters, with so many cells of output and scratch lent.
+fn call_front(
+    l: Lexer,
+    text: &[u32],
+    n: usize,
+    contexts: usize,
+    out: &mut [u32],
+    output: usize,
+    free: &mut [u32],
+    scratch: usize,
+) {
+    if text.len() < n {
+        return;
+    }
+    if out.len() < output {
+        return;
+    }
+    if free.len() < scratch {
+        return;
+    }
+    let slots = lent::slots();
+    let names = lent::names();
+    let c = tokens::call::next_token(
+        l,
+        &text[..n],
+        told::empty_scope(contexts),
+        &slots,
+        &names,
+        &mut out[..output],
+        &mut free[..scratch],
+    );
+    let zero = filled::is_filled(&free[..scratch], 0, 0);
+    answer(c, out, zero);
+}
+
+// A call on so many times `a`.
+fn host(position: usize, pending: bool, n: usize, contexts: usize, output: usize, scratch: usize) {
+    told::numbers(&[position, n, contexts, output, scratch]);
+    let text = lent::text(0x61);
+    let mut out = lent::cells();
+    let mut free = lent::cells();
+    call_front(
+        state(position, pending),
+        &text,
+        n,
+        contexts,
+        &mut out,
+        output,
+        &mut free,
+        scratch,
+    );
+}
+
+// 01: 1, 12, 10, 9. In the first calls the causes behind hold, too.
+fn hosts() {
+    host(16_386, false, 16_385, 33, 0, 0);
+    host(3, false, 2, 33, 0, 0);
+    host(2, false, 2, 33, 0, 0);
+    host(1, false, 2, 1, 1, 4);
+    host(1, false, 2, 1, 2, 3);
+    host(1, false, 2, 1, 2, 4);
+    host(0, true, 2, 1, 1, 4);
+    host(0, true, 2, 1, 2, 4);
+    host(0, false, 16_385, 1, 16_385, 32_770);
+    host(0, false, 16_384, 1, 16_384, 32_768);
+    host(0, false, 0, 1, 0, 0);
+}
+
+// A call from the third of n characters on, which are at most 16.
+pub fn behind(text: &[u32], n: usize) {
+    let mut out = [FILL; 16];
+    let mut free = [FILL; 32];
+    call_front(
+        state(2, false),
+        text,
+        n,
+        1,
+        &mut out,
+        n,
+        &mut free,
+        2 * (n % 32),
+    );
+}
+
+pub fn tried() {
+    say::words(b"Token calls: position, characters, contexts, output, scratch\n");
+    hosts();
+}
