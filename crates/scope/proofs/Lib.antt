@@ -4,6 +4,7 @@ pub mod SearchLaws
 pub mod CompareLaws
 pub mod HeldLaws
 pub mod BrokenLaws
+pub mod MarkLaws
 pub mod ParsedLaws
 pub mod SoundLaws
 pub mod TextLaws

@@ -6,6 +6,7 @@ pub mod Capped
 pub mod Broken
 pub mod Calls
 pub mod Lent
+pub mod Mark
 pub mod Rows
 pub mod Longest
 pub mod Answers

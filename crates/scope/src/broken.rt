@@ -176,16 +176,37 @@ fn is_repeated(slots: &[[u32; 4]], names: &[[u32; 128]], count: usize, i: usize)
     false
 }
 
+// Whether the name of the entry at i stands again at its level, which it cannot if its mark is free.
+fn stands_again(
+    slots: &[[u32; 4]],
+    names: &[[u32; 128]],
+    count: usize,
+    i: usize,
+    taken: bool,
+) -> bool
+    requires { ⌜ (i < count) × (count ≤ length (now slots)) × (count ≤ length (now names)) × (anyTooLong count (now slots) ≡ false) ⌝ }
+    ensures { λ r. ⌜ r ≡ (taken && isRepeated (entryAt (now (slots .entry)) (now (names .entry)) i) (drop (i + 1) (held count (now (slots .entry)) (now (names .entry))))) ⌝ }
+{
+    if taken {
+        return is_repeated(slots, names, count, i);
+    }
+    false
+}
+
+// Whether a name stands twice at one level. From the last entry to the first, each leaves the mark of its name; only where the mark is taken are names compared.
 fn any_repeated(slots: &[[u32; 4]], names: &[[u32; 128]], count: usize) -> bool
     requires { ⌜ (count ≤ length (now slots)) × (count ≤ length (now names)) × (anyTooLong count (now slots) ≡ false) ⌝ }
     ensures { λ r. ⌜ r ≡ spec.anyRepeated (held count (now (slots .entry)) (now (names .entry))) ⌝ }
 {
-    let mut i: usize = 0;
-    while i < count {
-        if is_repeated(slots, names, count, i) {
+    let mut taken = [false; 4096];
+    let mut i = count;
+    while 0 < i {
+        let m = compare::mark(&names[i - 1], compare::wide(slots[i - 1][3]));
+        if stands_again(slots, names, count, i - 1, taken[m]) {
             return true;
         }
-        i += 1;
+        taken[m] = true;
+        i -= 1;
     }
     false
 }
