@@ -5,8 +5,8 @@ use mathlib.Core.List.{List, [], _∷_, map}
 use Prim.Native.Nat.{ℕ, suc, _+_, _≤_, _<_}
 use native.Mathlib.Numerals.{add-one}
 use native.Mathlib.Omega.{arith}
-use lib.Dec.{leb, eqb}
-use borrow.Author.Tests.{leb-true, le-leb, lt-leb, eqb-true, eq-eqb}
+use lib.Dec.{leb, ltb, eqb}
+use borrow.Author.Tests.{leb-true, ltb-true, le-leb, lt-leb, eqb-true, eq-eqb}
 use lib.ListN.{length, getD, drop, drop-of-length-le}
 use lib.Seq.{drop-cons}
 use Rattle.reading.specs.Cells.{isOneOf}
@@ -113,6 +113,35 @@ same-class {rs} {c} f ss h g = f .answer ∙ go (among rs c) (among ss c) (among
     go false true f g = g refl
     go false false f g = refl
 
+-- The range meets none of the table's.
+unfoldable pub apart : List ℕ → List (List ℕ) → Bool
+apart r [] = true
+apart r (s ∷ ss) = (ltb (getD r 1 0) (getD s 0 0) || ltb (getD s 1 0) (getD r 0 0)) && apart r ss
+
+apart-none : (r : List ℕ) (ss : List (List ℕ)) (c : ℕ) → apart r ss ≡ true → getD r 0 0 ≤ c → c ≤ getD r 1 0 → among ss c ≡ false
+unfolding apart among
+apart-none r [] c h l g = refl
+apart-none r (s ∷ ss) c h l g =
+    let k = both (ltb (getD r 1 0) (getD s 0 0) || ltb (getD s 1 0) (getD r 0 0)) (apart r ss) h in
+    let rest = apart-none r ss c (k .1) l g in
+    either (ltb (getD r 1 0) (getD s 0 0)) (k .0)
+    (λ e. let z = ltb-true (getD r 1 0) (getD s 0 0) e in rw (lt-leb (getD s 0 0) c (omega arith), rest))
+    (λ e. let z = ltb-true (getD s 1 0) (getD r 0 0) e in rw (lt-leb c (getD s 1 0) (omega arith), rest) (and-none (leb (getD s 0 0) c)))
+  where
+    and-none : (a : Bool) → (a && false) || false ≡ false
+    and-none true = refl
+    and-none false = refl
+
+-- What a range says of a character in it: all of it is in the class, or none.
+module _ (r : List ℕ) (ss : List (List ℕ)) (c : ℕ) {b : Bool} (w : b ≡ within r c) (t : b ≡ true) where
+  pub all-in : covered r ss ≡ true → true ≡ among ss c
+  all-in h = sym (within-covered r ss c h (sym w ∙ t))
+
+  pub all-out : apart r ss ≡ true → false ≡ among ss c
+  all-out h =
+      let k = both (leb (getD r 0 0) c) (leb c (getD r 1 0)) (sym w ∙ t) in
+      sym (apart-none r ss c h (leb-true (getD r 0 0) c (k .0)) (leb-true c (getD r 1 0) (k .1)))
+
 equal-within : (x c : ℕ) → eqb x c ≡ within (only x) c
 equal-within x c = go (eqb x c) refl (within (only x) c) refl
   where
@@ -130,6 +159,10 @@ one-of-ranges (x ∷ xs) c = ap₂ (equal-within x c) (one-of-ranges xs c)
   where
     ap₂ : {a a′ b b′ : Bool} → a ≡ a′ → b ≡ b′ → (a || b) ≡ (a′ || b′)
     ap₂ p q = rw (p, q)
+
+-- A range that meets none of the list.
+pub none-of : (r : List ℕ) (xs : List ℕ) (c : ℕ) {b : Bool} → b ≡ within r c → b ≡ true → apart r (map only xs) ≡ true → false ≡ isOneOf xs c
+none-of r xs c w t h = all-out r (map only xs) c w t h ∙ sym (one-of-ranges xs c)
 
 -- A table and a list that cover each other are one class.
 pub same-list : {rs : List (List ℕ)} {c : ℕ} {r : Bool} → Found rs c r → (xs : List ℕ) → allCovered rs (map only xs) ≡ true → allCovered (map only xs) rs ≡ true → r ≡ isOneOf xs c

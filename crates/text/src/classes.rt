@@ -2,7 +2,7 @@
 // Ruled out, among others: a range one short at its end (U+200B no whitespace); the last character of a range left out.
 ghost use mathlib.Core.Path.{_≡_};
 ghost use mathlib.Core.Bool.{true};
-ghost use Rattle.text.specs.Ranges.{Found, rises};
+ghost use Rattle.text.specs.Ranges.{to, within, Found, rises};
 ghost use Rattle.text.specs.Classes as spec;
 
 // Whether c lies in a range of the table. The first range above c ends the search, so that an ASCII character costs few comparisons.
@@ -23,6 +23,15 @@ pub fn in_ranges(table: &[[u32; 2]], c: u32) -> bool
         i += 1;
     }
     false
+}
+
+fn is_between(c: u32, low: u32, high: u32) -> bool
+    ensures { λ r. ⌜ r ≡ within (to low high) c ⌝ }
+{
+    if c < low {
+        return false;
+    }
+    c <= high
 }
 
 const VERTICAL_SPACES: [[u32; 2]; 1] = [[0x0A, 0x0D]];
@@ -138,9 +147,13 @@ pub fn is_vertical_space(c: u32) -> bool
     in_ranges(&VERTICAL_SPACES, c)
 }
 
+// Most characters of a rule lie where there is no whitespace.
 pub fn is_whitespace(c: u32) -> bool
     ensures { λ r. ⌜ r ≡ spec.isWhitespace c ⌝ }
 {
+    if is_between(c, 0x21, 0x84) {
+        return false;
+    }
     in_ranges(&WHITESPACES, c)
 }
 
@@ -150,15 +163,22 @@ pub fn is_digit(c: u32) -> bool
     in_ranges(&DIGITS, c)
 }
 
+// Most characters of a name are small letters.
 pub fn is_name_start_char(c: u32) -> bool
     ensures { λ r. ⌜ r ≡ spec.isNameStart c ⌝ }
 {
+    if is_between(c, 0x61, 0x7A) {
+        return true;
+    }
     in_ranges(&NAME_STARTS, c)
 }
 
 pub fn is_name_part_char(c: u32) -> bool
     ensures { λ r. ⌜ r ≡ spec.isNamePart c ⌝ }
 {
+    if is_between(c, 0x61, 0x7A) {
+        return true;
+    }
     in_ranges(&NAME_PARTS, c)
 }
 
@@ -178,6 +198,9 @@ pub fn is_scalar(c: u32) -> bool
 pub fn is_additional_name_symbol(c: u32) -> bool
     ensures { λ r. ⌜ r ≡ spec.isSymbol c ⌝ }
 {
+    if is_between(c, 0x30, 0x7E) {
+        return false;
+    }
     in_ranges(&SYMBOLS, c)
 }
 
