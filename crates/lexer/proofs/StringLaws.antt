@@ -1,6 +1,6 @@
 -- Each way through a string's inside, followed look by look with its reach, which a character may leave open by one.
 use mathlib.Core.Path.{_≡_, refl, sym, _∙_, ap, subst}
-use mathlib.Core.Bool.{false≢true, Bool, true, false, _||_}
+use mathlib.Core.Bool.{false≢true, Bool, true, false, _||_, not}
 use mathlib.Core.Option.{Option, none, some}
 use mathlib.Core.List.{List, [], _∷_, _++_}
 use Prim.Native.Nat.{ℕ, zero, suc, _+_, _-_, _*_, _≤_, _<_, max}
@@ -29,7 +29,7 @@ use Rattle.lexer.specs.declared.string.Hex.the-variants.{Value, NoDigit}
 use Rattle.lexer.specs.declared.string.Piece.{Piece}
 use Rattle.lexer.specs.declared.string.Piece.the-variants.{Char, Quote, LineEnd, TextEnd, Refused}
 use Rattle.lexer.specs.declared.string.Literal.the-variants.{Chars, LineEnds, TextEnds, Broken}
-use Rattle.lexer.specs.Pieces.{Inside, Written, asDigit, asPlain, hexOf, hexReach, Hexed, pieceOf, leastEnd, endOf, Pieced}
+use Rattle.lexer.specs.Pieces.{Inside, Written, asDigit, asPlain, hexOf, hexReach, Hexed, pieceOf, leastEnd, endOf, Pieced, Plain}
 
 abbrev Met : Option ℕ → Type 0
 Met v = v ≡ asDigit (maybe v 16 (λ d. d))
@@ -256,6 +256,14 @@ module _ (t : List ℕ) (i : ℕ) where
 
         pub piece-one : b ≡ false → At (Char (getD t i 0) (i + 1))
         piece-one h r u = record { reach = i + 2; low = omega arith; high = omega arith; from = omega arith; within = omega arith; goes = λ s. finds (rw (ne-eqb 0x5C (getD t i 0) e, ne-eqb 0x22 (getD t i 0) f, sym g ∙ h) at (there-looked r u s)) }
+
+-- A character that is none of those stands for itself.
+pub plain-piece : (t : List ℕ) (i : ℕ) → i < length t → (0x5C ≡ getD t i 0 → ⊥) → (0x22 ≡ getD t i 0 → ⊥) → {b : Bool} → b ≡ isVerticalSpace (getD t i 0) → not b ≡ true → Plain t i
+plain-piece t i h e f {b} g n = record { there = h; piece = piece-one t i h e f g (not-true b n) }
+  where
+    not-true : (b : Bool) → not b ≡ true → b ≡ false
+    not-true true k = absurd (false≢true k)
+    not-true false k = refl
 
 pub value-within : {t : List ℕ} {i n : ℕ} {r : Hex} → Hexed t i n r → {v : ℕ} → r ≡ Value v → i + n ≤ length t
 value-within {t} {i} {n} g {v} q = let b : Hexed t i n (Value v) = rw q at g in b .within

@@ -3,9 +3,9 @@ use mathlib.Core.Path.{_≡_}
 use mathlib.Core.Bool.{cond}
 use mathlib.Core.Option.{Option, none, some}
 use mathlib.Core.List.{List, []}
-use Prim.Native.Nat.{ℕ, _+_, _≤_}
+use Prim.Native.Nat.{ℕ, _+_, _≤_, _<_}
 use lib.Dec.{ltb, eqb}
-use lib.ListN.{length}
+use lib.ListN.{length, getD}
 use Rattle.reading.specs.Look.{Look}
 use Rattle.reading.specs.Goes.{Goes}
 use Rattle.reading.specs.Slices.{Wrote}
@@ -87,6 +87,11 @@ pub record Pieced (t : List ℕ) (r : ℕ) (m : List ℕ → Look spec.Piece) (i
   pub from : leastEnd i p ≤ endOf p
   pub within : endOf p ≤ length t
   pub goes : (sofar : List ℕ) → Goes t r (m sofar) (pieceOf sofar p) reach
+
+-- the character at i stands for itself, whatever the reach so far
+pub record Plain (t : List ℕ) (i : ℕ) : Type 0 where
+  pub there : i < length t
+  pub piece : (r : ℕ) → r ≤ i + 1 → Pieced t r (λ sofar. spec.readPiece i sofar) i (Char (getD t i 0) (i + 1))
 
 pub record Hexed (t : List ℕ) (i n : ℕ) (h : Hex) : Type 0 where
   pub from : i ≤ hexEnd i n h

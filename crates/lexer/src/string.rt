@@ -1,6 +1,6 @@
 // String literals, in two passes: the first reads without writing, so that a string that breaks off has written nothing.
 ghost use mathlib.Core.Path.{_≡_};
-ghost use mathlib.Core.Bool.{_||_};
+ghost use mathlib.Core.Bool.{true, _||_};
 ghost use mathlib.Core.List.{List, []};
 ghost use Prim.Native.Nat.{ℕ, _+_, _≤_, _<_};
 ghost use lib.Dec.{eqb};
@@ -11,7 +11,7 @@ ghost use Rattle.text.specs.Limits.{maxChars};
 ghost use Rattle.lexer.specs.Read as read;
 ghost use Rattle.lexer.specs.Text as spec;
 ghost use Rattle.lexer.specs.Token.{fuel};
-ghost use Rattle.lexer.specs.Pieces.{asPlain, Hexed, Pieced, Inside, Written};
+ghost use Rattle.lexer.specs.Pieces.{asPlain, Hexed, Pieced, Plain, Inside, Written};
 
 // The value of hexadecimal digits; or number, carry and place of a refusal.
 pub enum Hex {
@@ -186,6 +186,23 @@ fn read_piece(rest: &[u32], i: usize) -> Piece
     Piece::Char(x, i + 1)
 }
 
+// Whether the character at i stands for itself, as most do: then it is a piece that need not be read.
+fn plain_at(rest: &[u32], i: usize) -> bool
+    ensures { λ r. ⌜ (r ≡ true → Plain (now (rest .entry)) i) ⌝ }
+{
+    if rest.len() <= i {
+        return false;
+    }
+    let x = rest[i];
+    if 0x5C == x {
+        return false;
+    }
+    if 0x22 == x {
+        return false;
+    }
+    !text::classes::is_vertical_space(x)
+}
+
 // How many characters a string has and where it ends; where a line's end or the text's end broke it off; or number, carry, place and reach of a refusal.
 pub enum Literal {
     Chars(usize, usize),
@@ -203,22 +220,26 @@ pub fn read_string(rest: &[u32], from: usize) -> Literal
     let mut i = from;
     let mut n: usize = 0;
     loop {
-        let p = read_piece(rest, i);
-        match p {
-            Piece::Char(_, j) => {
-                i = j;
-            }
-            Piece::Quote(j) => {
-                return Literal::Chars(n, j);
-            }
-            Piece::LineEnd(j) => {
-                return Literal::LineEnds(j);
-            }
-            Piece::TextEnd(j) => {
-                return Literal::TextEnds(j);
-            }
-            Piece::Refused(m, k, j, q) => {
-                return Literal::Broken(m, k, j, q);
+        if plain_at(rest, i) {
+            i += 1;
+        } else {
+            let p = read_piece(rest, i);
+            match p {
+                Piece::Char(_, j) => {
+                    i = j;
+                }
+                Piece::Quote(j) => {
+                    return Literal::Chars(n, j);
+                }
+                Piece::LineEnd(j) => {
+                    return Literal::LineEnds(j);
+                }
+                Piece::TextEnd(j) => {
+                    return Literal::TextEnds(j);
+                }
+                Piece::Refused(m, k, j, q) => {
+                    return Literal::Broken(m, k, j, q);
+                }
             }
         }
         n += 1;
@@ -233,23 +254,28 @@ pub fn write_string(rest: &[u32], from: usize, out: &mut [u32]) -> usize
     let mut i = from;
     let mut n: usize = 0;
     loop {
-        let p = read_piece(rest, i);
-        match p {
-            Piece::Char(c, j) => {
-                out[n] = c;
-                i = j;
-            }
-            Piece::Quote(_) => {
-                return n;
-            }
-            Piece::LineEnd(_) => {
-                return n;
-            }
-            Piece::TextEnd(_) => {
-                return n;
-            }
-            Piece::Refused(_, _, _, _) => {
-                return n;
+        if plain_at(rest, i) {
+            out[n] = rest[i];
+            i += 1;
+        } else {
+            let p = read_piece(rest, i);
+            match p {
+                Piece::Char(c, j) => {
+                    out[n] = c;
+                    i = j;
+                }
+                Piece::Quote(_) => {
+                    return n;
+                }
+                Piece::LineEnd(_) => {
+                    return n;
+                }
+                Piece::TextEnd(_) => {
+                    return n;
+                }
+                Piece::Refused(_, _, _, _) => {
+                    return n;
+                }
             }
         }
         n += 1;
