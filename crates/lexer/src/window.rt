@@ -7,7 +7,8 @@ ghost use Rattle.text.specs.Limits.{maxChars};
 ghost use Rattle.lexer.specs.Window.{shown};
 ghost use Rattle.lexer.specs.Shown.{windowOf};
 
-fn shown_at(rest: &[u32], i: usize) -> u32
+// The character at i as the window shows it.
+pub fn shown_at(rest: &[u32], i: usize) -> u32
     ensures { λ r. ⌜ r ≡ shown (cellAt (now (rest .entry)) i) ⌝ }
 {
     if rest.len() <= i {
