@@ -24,7 +24,7 @@ module _ (a : List ℕ) (n i m : ℕ) (h : n ≤ length a) where
   unfolding markFrom
   mark-end g = let x : length (take n a) ≤ i = rw (length-take-le n a h) g in rw (drop-of-length-le (take n a) x)
 
-  pub mark-step : i < n → markFrom m (drop i (take n a)) ≡ markFrom ((31 * m + getD a i 0 % 4096) % 4096) (drop (i + 1) (take n a))
+  pub mark-step : i < n → markFrom m (drop i (take n a)) ≡ markFrom ((31 * m + getD a i 0 % 8192) % 8192) (drop (i + 1) (take n a))
   unfolding markFrom
   mark-step g = let x : i < length (take n a) = rw (length-take-le n a h) g in rw (add-one, drop-cons (take n a) i 0 x, getD-take n a i 0 g)
 
@@ -33,10 +33,10 @@ unfolding same markFrom
 same-mark m [] [] h = refl
 same-mark m [] (b ∷ y) h = absurd (false≢true h)
 same-mark m (a ∷ x) [] h = absurd (false≢true h)
-same-mark m (a ∷ x) (b ∷ y) h = go (eqb a b) refl h (same-mark ((31 * m + b % 4096) % 4096) x y)
+same-mark m (a ∷ x) (b ∷ y) h = go (eqb a b) refl h (same-mark ((31 * m + b % 8192) % 8192) x y)
   where
-    go : (t : Bool) → eqb a b ≡ t → t && same x y ≡ true → (same x y ≡ true → markFrom ((31 * m + b % 4096) % 4096) x ≡ markFrom ((31 * m + b % 4096) % 4096) y)
-        → markFrom ((31 * m + a % 4096) % 4096) x ≡ markFrom ((31 * m + b % 4096) % 4096) y
+    go : (t : Bool) → eqb a b ≡ t → t && same x y ≡ true → (same x y ≡ true → markFrom ((31 * m + b % 8192) % 8192) x ≡ markFrom ((31 * m + b % 8192) % 8192) y)
+        → markFrom ((31 * m + a % 8192) % 8192) x ≡ markFrom ((31 * m + b % 8192) % 8192) y
     go true e k rest = rw (eqb-true a b e) (rest k)
     go false e k rest = absurd (false≢true k)
 
@@ -88,11 +88,11 @@ repeated-below (suc i) (e ∷ es) h = rw (repeated-below i es h) (or-true (isRep
 
 -- The entries from some place on: no name stands twice among them, and each has left its mark.
 pub record Passed (t : List Bool) (es : List Entry) : Type 0 where
-  pub size : length t ≡ 4096
+  pub size : length t ≡ 8192
   pub none : anyRepeated es ≡ false
   pub marked : Marked t es
 
-pub passed-start : (t : List Bool) (k : ℕ) (ss ns : List (List ℕ)) → length t ≡ 4096 → k ≤ length ss → k ≤ length ns → Passed t (drop k (held k ss ns))
+pub passed-start : (t : List Bool) (k : ℕ) (ss ns : List (List ℕ)) → length t ≡ 8192 → k ≤ length ss → k ≤ length ns → Passed t (drop k (held k ss ns))
 unfolding anyRepeated Marked
 passed-start t k ss ns e h j = let z : k ≤ k = omega arith in rw (held-end k k ss ns z h j) (record { size = e; none = refl; marked = tt })
 
@@ -109,7 +109,7 @@ module _ (t : List Bool) (e : Entry) (es : List Entry) (p : Passed t es) (m : �
   unfolding anyRepeated
   passed-twice f = rw (sym again ∙ f)
 
-  pub passed-more : m < 4096 → b ≡ false → Passed (set t m true) (e ∷ es)
+  pub passed-more : m < 8192 → b ≡ false → Passed (set t m true) (e ∷ es)
   unfolding anyRepeated Marked
   passed-more l f =
       let z : m < length t = rw (p .size) l in

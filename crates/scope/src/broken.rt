@@ -198,7 +198,7 @@ fn any_repeated(slots: &[[u32; 4]], names: &[[u32; 128]], count: usize) -> bool
     requires { ⌜ (count ≤ length (now slots)) × (count ≤ length (now names)) × (anyTooLong count (now slots) ≡ false) ⌝ }
     ensures { λ r. ⌜ r ≡ spec.anyRepeated (held count (now (slots .entry)) (now (names .entry))) ⌝ }
 {
-    let mut taken = [false; 4096];
+    let mut taken = [false; 8192];
     let mut i = count;
     while 0 < i {
         let m = compare::mark(&names[i - 1], compare::wide(slots[i - 1][3]));

@@ -33,12 +33,12 @@ pub fn same_cells(a: &[u32], n: usize, b: &[u32], m: usize) -> bool
 // The mark of a name, the same for names that are the same: names with different marks need not be compared.
 pub fn mark(cells: &[u32], n: usize) -> usize
     requires { ⌜ n ≤ length (now cells) ⌝ }
-    ensures { λ r. ⌜ (r ≡ markOf (take n (now (cells .entry)))) × (r < 4096) ⌝ }
+    ensures { λ r. ⌜ (r ≡ markOf (take n (now (cells .entry)))) × (r < 8192) ⌝ }
 {
     let mut m: usize = 0;
     let mut i: usize = 0;
     while i < n {
-        m = (31 * m + wide(cells[i] % 4096)) % 4096;
+        m = (31 * m + wide(cells[i] % 8192)) % 8192;
         i += 1;
     }
     m

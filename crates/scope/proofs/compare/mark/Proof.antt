@@ -13,7 +13,7 @@ use Rattle.scope.proofs.compare.mark.Lts as lts
 use Rattle.scope.proofs.compare.wide.Reads as wide-reads
 
 abbrev Inv-loop : tie.InvT-loop
-Inv-loop cells n m₀ i₀ m i = (i ≤ n) × (m < 4096) × (markOf (take n cells) ≡ markFrom m (drop i (take n cells)))
+Inv-loop cells n m₀ i₀ m i = (i ≤ n) × (m < 8192) × (markOf (take n cells) ≡ markFrom m (drop i (take n cells)))
 
 abbrev μ-loop : tie.MeasureT-loop
 μ-loop cells n m₀ i₀ m i = n - i
