@@ -1,5 +1,5 @@
 -- What the names in the slots add to a key, slot by slot and depth by depth, and that no name of the scope is longer.
-use mathlib.Core.Path.{_≡_, refl, _∙_}
+use mathlib.Core.Path.{_≡_, refl, sym, _∙_}
 use mathlib.Core.List.{List, [], _∷_, map}
 use Prim.Native.Nat.{ℕ, zero, suc, _+_, _-_, _<_, _≤_, max}
 use native.Mathlib.Omega.{arith}
@@ -14,7 +14,7 @@ use Rattle.scope.specs.Keys.{isName}
 use Rattle.scope.specs.Capped.{Capped}
 use Rattle.scope.specs.Lent.{Lent, scopeOf, held, heldParsed}
 use Rattle.scope.specs.Rows.{nameLength}
-use Rattle.scope.specs.Longest.{most, total, width, widest, longestParsed}
+use Rattle.scope.specs.Longest.{most, total, width, widest, longestParsed, Deepest}
 use Rattle.scope.proofs.LongestLaws.{Fits, Short, capped}
 
 -- Each number is at most the largest.
@@ -39,10 +39,6 @@ module _ (f : ℕ → ℕ) where
 
   -- The sum from the last number down.
   module _ (n : ℕ) where
-    pub total-none : 0 ≡ total f (n - n) n
-    unfolding total
-    total-none = let z : n - n ≡ 0 = omega arith in rw z refl
-
     module _ (d : ℕ) {s : ℕ} (h : s ≡ total f (n - d) d) where
       pub total-more : {r : ℕ} → 0 < d → d ≤ n → r ≡ f (d - 1) → s + r ≡ total f (n - (d - 1)) (d - 1)
       unfolding total
@@ -63,6 +59,37 @@ module _ (ss : List (List ℕ)) (d i : ℕ) where
   pub width-here : getD (getD ss i []) 1 0 ≡ d → nameLength ss i + 3 ≡ width ss d i
   unfolding width
   width-here h = rw (eq-eqb _ _ h)
+
+-- The depths in use, slot by slot; at those behind them nothing is added.
+pub deepest-none : (ss : List (List ℕ)) → Deepest ss 0 0
+deepest-none ss = record { few = omega arith; none = λ i h l. absurd (omega arith) }
+
+pub deepest-more : (ss : List (List ℕ)) (i : ℕ) {m r : ℕ} → Deepest ss i m → m ≤ r → r ≤ maxDepth + 1 → (getD (getD ss i []) 1 0 ≤ maxDepth → getD (getD ss i []) 1 0 < r) → Deepest ss (i + 1) r
+deepest-more ss i {m} {r} h l g f = record {
+  few = g;
+  none = λ j k d. by-order j i
+      (λ u. let z = h .none j u d in omega arith)
+      (λ u. let e : i ≡ j = omega arith in rw (← e) (f (rw e d)));
+}
+
+pub deepest-all : (ss : List (List ℕ)) (i k : ℕ) {r : ℕ} → k ≤ i → i ≤ k → Deepest ss i r → Deepest ss k r
+deepest-all ss i k g l h = let e : k ≡ i = omega arith in rw e h
+
+most-zero : (f : ℕ → ℕ) (k : ℕ) → ((i : ℕ) → i < k → f i ≡ 0) → most f k ≡ 0
+unfolding most
+most-zero f zero h = refl
+most-zero f (suc k) h = rw (most-zero f k (λ i l. h i (omega arith)), h k (omega arith)) refl
+
+total-zero : (f : ℕ → ℕ) (n d : ℕ) → ((e : ℕ) → d ≤ e → e < d + n → f e ≡ 0) → total f n d ≡ 0
+unfolding total
+total-zero f zero d h = refl
+total-zero f (suc n) d h = rw (h d (omega arith) (omega arith), total-zero f n (d + 1) (λ e l g. h e (omega arith) (omega arith))) refl
+
+pub deepest-total : (ss : List (List ℕ)) (k : ℕ) {r : ℕ} → Deepest ss k r → 0 ≡ total (widest ss k) (maxDepth + 1 - r) r
+deepest-total ss k {r} h = sym (total-zero (widest ss k) (maxDepth + 1 - r) r (λ d l g. most-zero (width ss d) k (λ i u. sym (width-other ss d i (other d l g i u)))))
+  where
+    other : (d : ℕ) → r ≤ d → d < r + (maxDepth + 1 - r) → (i : ℕ) → i < k → getD (getD ss i []) 1 0 ≡ d → ⊥
+    other d l g i u e = let f = h .few in let z = h .none i u (omega arith) in omega arith
 
 -- A name has no more cells than its slot says.
 held-fits : (w : ℕ → ℕ) (k : ℕ) (ss ns : List (List ℕ)) → ((i : ℕ) → i < k → nameLength ss i + 3 ≤ w (getD (getD ss i []) 1 0)) → Fits w (held k ss ns)

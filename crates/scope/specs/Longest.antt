@@ -1,10 +1,10 @@
 -- How long a name of a scope can be, by the name lengths in its slots.
-use Prim.Native.Nat.{ℕ, zero, suc, _+_, max}
+use Prim.Native.Nat.{ℕ, zero, suc, _+_, _≤_, _<_, max}
 use mathlib.Core.Bool.{cond}
 use mathlib.Core.List.{List, []}
 use lib.Dec.{eqb}
 use lib.ListN.{getD}
-use Rattle.scope.specs.Limits.{maxEntries}
+use Rattle.scope.specs.Limits.{maxEntries, maxDepth}
 use Rattle.scope.specs.Rows.{nameLength}
 
 -- The largest of so many numbers, 0 if there are none.
@@ -28,3 +28,8 @@ widest ss k d = most (width ss d) k
 -- The length of the longest of so many parsed names.
 abbrev pub longestParsed : List (List ℕ) → ℕ → ℕ
 longestParsed ss k = most (λ i. nameLength ss (maxEntries + i)) k
+
+-- Of the depths 0 to 7 so many slots use none from r on.
+pub record Deepest (ss : List (List ℕ)) (k r : ℕ) : Type 0 where
+  pub few : r ≤ maxDepth + 1
+  pub none : (i : ℕ) → i < k → getD (getD ss i []) 1 0 ≤ maxDepth → getD (getD ss i []) 1 0 < r

@@ -193,8 +193,23 @@ fn stands_again(
     false
 }
 
-// Whether a name stands twice at one level. From the last entry to the first, each leaves the mark of its name; only where the mark is taken are names compared.
-fn any_repeated(slots: &[[u32; 4]], names: &[[u32; 128]], count: usize) -> bool
+// Whether a name stands twice at one level: each is compared with those behind it.
+fn any_of_few(slots: &[[u32; 4]], names: &[[u32; 128]], count: usize) -> bool
+    requires { ⌜ (count ≤ length (now slots)) × (count ≤ length (now names)) × (anyTooLong count (now slots) ≡ false) ⌝ }
+    ensures { λ r. ⌜ r ≡ spec.anyRepeated (held count (now (slots .entry)) (now (names .entry))) ⌝ }
+{
+    let mut i: usize = 0;
+    while i < count {
+        if is_repeated(slots, names, count, i) {
+            return true;
+        }
+        i += 1;
+    }
+    false
+}
+
+// The same. From the last entry to the first, each leaves the mark of its name; only where the mark is taken are names compared.
+fn any_of_many(slots: &[[u32; 4]], names: &[[u32; 128]], count: usize) -> bool
     requires { ⌜ (count ≤ length (now slots)) × (count ≤ length (now names)) × (anyTooLong count (now slots) ≡ false) ⌝ }
     ensures { λ r. ⌜ r ≡ spec.anyRepeated (held count (now (slots .entry)) (now (names .entry))) ⌝ }
 {
@@ -209,6 +224,17 @@ fn any_repeated(slots: &[[u32; 4]], names: &[[u32; 128]], count: usize) -> bool
         i -= 1;
     }
     false
+}
+
+// The same. Clearing the marks costs as much as comparing some 16 names.
+fn any_repeated(slots: &[[u32; 4]], names: &[[u32; 128]], count: usize) -> bool
+    requires { ⌜ (count ≤ length (now slots)) × (count ≤ length (now names)) × (anyTooLong count (now slots) ≡ false) ⌝ }
+    ensures { λ r. ⌜ r ≡ spec.anyRepeated (held count (now (slots .entry)) (now (names .entry))) ⌝ }
+{
+    if count <= 16 {
+        return any_of_few(slots, names, count);
+    }
+    any_of_many(slots, names, count)
 }
 
 // Whether the first n cells are one of the parsed names from `from` on.

@@ -21,6 +21,20 @@ fn larger(a: usize, b: usize) -> usize
     a
 }
 
+// As many depths as are in use with one more entry, of this depth.
+fn deeper(most: u32, depth: u32) -> u32
+    requires { ⌜ most ≤ maxDepth + 1 ⌝ }
+    ensures { λ r. ⌜ (most ≤ r) × (r ≤ maxDepth + 1) × (depth ≤ maxDepth → depth < r) ⌝ }
+{
+    if depth < most {
+        return most;
+    }
+    if Scope::MAX_DEPTH < depth {
+        return most;
+    }
+    depth + 1
+}
+
 // What the name in slot i adds to a key: its cells and those of " . ". Nothing if it stands at another depth than d.
 fn width(slots: &[[u32; 4]], count: usize, i: usize, d: u32) -> usize
     requires { ⌜ (i < count) × (count ≤ length (now slots)) × (anyTooLong count (now slots) ≡ false) ⌝ }
@@ -46,13 +60,27 @@ fn widest(slots: &[[u32; 4]], count: usize, d: u32) -> usize
     most
 }
 
+// How many depths are in use, so that the others need not be gone through.
+fn depths(slots: &[[u32; 4]], count: usize) -> u32
+    requires { ⌜ count ≤ length (now slots) ⌝ }
+    ensures { λ r. ⌜ spec.Deepest (now (slots .entry)) count r ⌝ }
+{
+    let mut most: u32 = 0;
+    let mut i: usize = 0;
+    while i < count {
+        most = deeper(most, slots[i][1]);
+        i += 1;
+    }
+    most
+}
+
 // The most that names of all depths add, one of each; summed from the deepest up.
 fn total(slots: &[[u32; 4]], count: usize) -> usize
     requires { ⌜ (count ≤ length (now slots)) × (anyTooLong count (now slots) ≡ false) ⌝ }
     ensures { λ r. ⌜ (r ≡ spec.total (spec.widest (now (slots .entry)) count) (maxDepth + 1) 0) × (r ≤ longestKey + 3) ⌝ }
 {
     let mut sum: usize = 0;
-    let mut d: u32 = Scope::MAX_DEPTH + 1;
+    let mut d = depths(slots, count);
     while 0 < d {
         d -= 1;
         sum += widest(slots, count, d);

@@ -11,10 +11,10 @@ use Rattle.scope.proofs.HeldLaws.{short-at}
 use Rattle.scope.proofs.MarkLaws.{Passed, passed-start, passed-more, passed-twice, before, twice}
 use native.Mathlib.Omega.{arith}
 use borrow.Author.Needs.{needs}
-use Rattle.scope.proofs.broken.any_repeated.Statement.{statement}
-use Rattle.scope.proofs.broken.any_repeated.Tie as tie
-use Rattle.scope.proofs.broken.any_repeated.Reads as reads
-use Rattle.scope.proofs.broken.any_repeated.Lts as lts
+use Rattle.scope.proofs.broken.any_of_many.Statement.{statement}
+use Rattle.scope.proofs.broken.any_of_many.Tie as tie
+use Rattle.scope.proofs.broken.any_of_many.Reads as reads
+use Rattle.scope.proofs.broken.any_of_many.Lts as lts
 use Rattle.scope.proofs.broken.stands_again.Reads as stands-again-reads
 use Rattle.scope.proofs.compare.mark.Reads as mark-reads
 use Rattle.scope.proofs.compare.wide.Reads as wide-reads
@@ -111,8 +111,8 @@ loop-again c =
 returns-2 : tie.Need-returns-2 Inv-loop μ-loop
 returns-2 c = let z : c .before .loop .i ≡ 0 = omega arith in sym (rw z at (c .before .loop .inv .1 .none))
 
-pub any-repeated-spec : {M : Type 1} → statement M
-any-repeated-spec =
+pub any-of-many-spec : {M : Type 1} → statement M
+any-of-many-spec =
     tie.close
     (tie.spec
     Inv-loop
