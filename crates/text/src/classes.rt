@@ -147,10 +147,13 @@ pub fn is_vertical_space(c: u32) -> bool
     in_ranges(&VERTICAL_SPACES, c)
 }
 
-// Most characters of a rule lie where there is no whitespace.
+// Most whitespace is a space, and most other characters of a rule lie where there is none.
 pub fn is_whitespace(c: u32) -> bool
     ensures { λ r. ⌜ r ≡ spec.isWhitespace c ⌝ }
 {
+    if 0x20 == c {
+        return true;
+    }
     if is_between(c, 0x21, 0x84) {
         return false;
     }

@@ -1,4 +1,4 @@
--- The table in code and the definition's list, as ranges of one, cover each other, by computation.
+-- A range without symbols; behind it the table in code and the definition's list, as ranges of one, cover each other, by computation.
 use mathlib.Core.Path.{refl}
 use Rattle.reading.specs.Codes.{codes}
 use Rattle.text.specs.Ranges.{to, rises}

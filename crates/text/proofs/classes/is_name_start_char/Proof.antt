@@ -1,4 +1,4 @@
--- The table in code and the definition's cover each other, by computation.
+-- Small letters are a range of the class; behind them the table in code and the definition's cover each other, by computation.
 use mathlib.Core.Path.{refl}
 use Rattle.text.specs.Ranges.{to, rises}
 use Rattle.text.specs.Classes.{nameStarts, isNameStart}

@@ -1,4 +1,4 @@
--- The table in code and the definition's cover each other, by computation.
+-- The space, a range without whitespace, and a table that covers the definition's and is covered by it, by computation.
 use mathlib.Core.Path.{refl}
 use Rattle.text.specs.Ranges.{to, rises}
 use Rattle.text.specs.Classes.{whitespaces, isWhitespace}
@@ -11,12 +11,16 @@ use Rattle.text.proofs.classes.is_whitespace.Lts as lts
 use Rattle.text.proofs.classes.in_ranges.Reads as in-ranges-reads
 use Rattle.text.proofs.classes.is_between.Reads as is-between-reads
 
+returns : tie.Need-returns
+unfolding isWhitespace
+returns c = rw (← (c .if1 .taken)) refl
+
 is-between-requires : tie.Need-is-between-requires
 is-between-requires c κs = search needs
 
-returns : tie.Need-returns
+returns-2 : tie.Need-returns-2
 unfolding isWhitespace apart
-returns c = all-out (to 0x21 0x84) whitespaces (c .before .before .args .c) (c .before .is-between .ensures) (c .if1 .taken) refl
+returns-2 c = all-out (to 0x21 0x84) whitespaces (c .before .before .before .args .c) (c .before .is-between .ensures) (c .if2 .taken) refl
 
 slice-aggregate-in-ranges : tie.Need-slice-aggregate-in-ranges
 slice-aggregate-in-ranges c = search needs
@@ -25,11 +29,17 @@ in-ranges-requires : tie.Need-in-ranges-requires
 unfolding rises
 in-ranges-requires c κs = refl
 
-returns-2 : tie.Need-returns-2
+returns-3 : tie.Need-returns-3
 unfolding isWhitespace covered allCovered
-returns-2 c = same-class (c .in-ranges .ensures) whitespaces refl refl
+returns-3 c = same-class (c .in-ranges .ensures) whitespaces refl refl
 
 pub is-whitespace-spec : {M : Type 1} → statement M
 is-whitespace-spec =
     tie.close
-    (tie.spec is-between-requires returns slice-aggregate-in-ranges in-ranges-requires returns-2)
+    (tie.spec
+    returns
+    is-between-requires
+    returns-2
+    slice-aggregate-in-ranges
+    in-ranges-requires
+    returns-3)
