@@ -7,6 +7,7 @@ use lib.Dec.{eqb}
 use lib.ListN.{length, take, drop}
 use Rattle.reading.specs.Span.{part}
 use Rattle.reading.specs.Slices.{Wrote}
+use Rattle.text.specs.Classes.{isSymbol}
 use Rattle.names.specs.Trim.{trim}
 use Rattle.names.specs.Name.{isSymbolText, isEmpty}
 use Rattle.names.specs.Flatten.{tighten}
@@ -30,6 +31,11 @@ pub record Tightened (s : ℕ) (o : List ℕ) (i e k : ℕ) (o′ : List ℕ) : 
   pub wrote : Wrote o (tighten s (part o i e)) k o′
   pub less : k ≤ e - i
   pub same : length o′ ≡ length o
+
+-- No cell is a symbol.
+abbrev pub Bare : List ℕ → Type 0
+Bare [] = Unit {0}
+Bare (c ∷ cs) = (isSymbol c ≡ false) × Bare cs
 
 -- What found o and left o′ has the k cells v at its front, and changed nothing from cell n on; what lies between is free.
 pub record Left (o v : List ℕ) (n k : ℕ) (o′ : List ℕ) : Type 0 where

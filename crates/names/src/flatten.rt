@@ -1,11 +1,11 @@
 // Flattening, in place: one pass a symbol.
 ghost use mathlib.Core.Path.{_≡_};
-ghost use mathlib.Core.Bool.{cond};
+ghost use mathlib.Core.Bool.{true, cond};
 ghost use Prim.Native.Nat.{_+_, _≤_, _<_};
 ghost use lib.ListN.{length, take};
 ghost use Rattle.reading.specs.Span.{part};
 ghost use Rattle.names.specs.Flatten.{flat};
-ghost use Rattle.names.specs.Spelling.{spaced, Tightened, Left};
+ghost use Rattle.names.specs.Spelling.{spaced, Tightened, Bare, Left};
 
 // 1 if a space, s and a space stand at i, else 0.
 fn gap(s: u32, buf: &[u32], i: usize, end: usize) -> usize
@@ -44,6 +44,24 @@ pub fn tighten(s: u32, buf: &mut [u32], from: usize, end: usize) -> usize
     k
 }
 
+// Whether the cells from `from` up to end stand at the front and hold no symbol, as most names do: then they are flat as they are.
+fn is_flat(buf: &[u32], from: usize, end: usize) -> bool
+    requires { ⌜ (from ≤ end) × (end ≤ length (now buf)) ⌝ }
+    ensures { λ r. ⌜ (r ≡ true → (from ≡ 0) × Bare (part (now (buf .entry)) from end)) ⌝ }
+{
+    if 0 < from {
+        return false;
+    }
+    let mut j = end;
+    while 0 < j {
+        if text::classes::is_additional_name_symbol(buf[j - 1]) {
+            return false;
+        }
+        j -= 1;
+    }
+    true
+}
+
 // Makes the first n cells of buf, parts joined by spaces, flat; answers how many they are then.
 // Ruled out, among others: the whole not trimmed; one pass forgotten, or passes in another order.
 pub fn flatten(buf: &mut [u32], n: usize) -> usize
@@ -53,6 +71,9 @@ pub fn flatten(buf: &mut [u32], n: usize) -> usize
     let whole = crate::trim::trim(buf, 0, n);
     let from = whole.from;
     let end = whole.end;
+    if is_flat(buf, from, end) {
+        return end;
+    }
     let a = tighten(0x2E, buf, from, end);
     let b = tighten(0x2F, buf, 0, a);
     let c = tighten(0x2D, buf, 0, b);

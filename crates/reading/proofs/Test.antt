@@ -1,6 +1,6 @@
 -- What follows from a computed test.
 use mathlib.Core.Path.{_≡_, refl}
-use mathlib.Core.Bool.{Bool, true, false, cond, _&&_, _||_, false≢true}
+use mathlib.Core.Bool.{Bool, true, false, cond, _&&_, _||_, true≢false, false≢true}
 use mathlib.Core.List.{List, [], _∷_}
 use Prim.Native.Nat.{ℕ, zero, suc, _≤_, _<_}
 use native.Mathlib.Nat.{not-suc-le-zero}
@@ -20,6 +20,14 @@ both false c h = absurd (false≢true h)
 pub either : {X : Type 0} (b : Bool) {c : Bool} → b || c ≡ true → (b ≡ true → X) → (c ≡ true → X) → X
 either true h f g = f refl
 either false h f g = g h
+
+pub or-left : (a b : Bool) → a || b ≡ false → a ≡ false
+or-left true b h = absurd (true≢false h)
+or-left false b h = refl
+
+pub or-right : (a b : Bool) → a || b ≡ false → b ≡ false
+or-right true b h = absurd (true≢false h)
+or-right false b h = h
 
 pub by-order : {Z : Type 0} (i n : ℕ) → (i < n → Z) → (n ≤ i → Z) → Z
 by-order {Z} i n f g = go (ltb i n) refl

@@ -8,11 +8,12 @@ use lib.ListN.{length, getD, drop, drop-of-length-le}
 use lib.Seq.{drop-cons}
 use borrow.Author.Tests.{ltb-false}
 use mathlib.Core.Bool.{false}
+use Rattle.reading.proofs.Test.{or-left, or-right}
 use Rattle.scope.specs.Limits.{maxName}
 use Rattle.scope.specs.Entries.{Entry}
 use Rattle.scope.specs.Lent.{held, anyTooLong}
 use Rattle.scope.specs.Rows.{entryAt, earlier}
-use Rattle.scope.proofs.SearchLaws.{Step, or-left, or-right}
+use Rattle.scope.proofs.SearchLaws.{Step}
 
 pub held-length : (k : ℕ) (ss ns : List (List ℕ)) → k ≤ length ss → k ≤ length ns → length (held k ss ns) ≡ k
 unfolding held

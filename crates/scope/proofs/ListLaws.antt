@@ -9,6 +9,7 @@ use lib.Dec.{ltb, leb, eqb}
 use lib.ListN.{length, getD, drop, drop-of-length-le, length-append}
 use lib.Seq.{drop-cons}
 use borrow.Author.Tests.{eq-eqb, ne-eqb, lt-ltb, le-ltb, ltb-false, le-leb, lt-leb}
+use Rattle.reading.proofs.Test.{or-left, or-right}
 use Rattle.names.specs.Same.{same}
 use Rattle.scope.specs.Limits.{maxDepth}
 use Rattle.scope.specs.Entries.{Entry, contextKind}
@@ -17,7 +18,7 @@ use Rattle.scope.specs.Broken.{isBrokenName, hasParent}
 use Rattle.scope.specs.Lent.{spanned, listed, anyOutside}
 use Rattle.scope.specs.Rows.{earlier}
 use Rattle.scope.specs.Listing.{isBrokenTo, anyBrokenTo, stays, cutAfter, keep}
-use Rattle.scope.proofs.SearchLaws.{Step, or-left, or-right}
+use Rattle.scope.proofs.SearchLaws.{Step}
 use Rattle.scope.proofs.HeldLaws.{earlier-step}
 
 pub map-step : {A B : Type 0} (f : A → B) (d : A) (l : List A) (i : ℕ) → i < length l → drop i (map f l) ≡ f (getD l i d) ∷ drop (suc i) (map f l)

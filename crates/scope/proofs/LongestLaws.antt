@@ -8,7 +8,7 @@ use lib.Dec.{eqb, ltb}
 use lib.ListN.{length, drop, length-append, length-drop}
 use borrow.Author.Tests.{ltb-false, eqb-true}
 use Rattle.reading.specs.Codes.{codes}
-use Rattle.reading.proofs.Test.{both, either}
+use Rattle.reading.proofs.Test.{both, either, or-left, or-right}
 use Rattle.names.specs.Same.{same, member}
 use Rattle.names.proofs.SameLaws.{equal-length}
 use Rattle.scope.specs.Limits.{maxName, maxDepth}
@@ -19,7 +19,6 @@ use Rattle.scope.specs.Capped.{Capped}
 use Rattle.scope.specs.Longest.{total}
 use Rattle.scope.specs.Lent.{Lent, scopeOf, isBroken}
 use Rattle.scope.specs.Rests.{leads}
-use Rattle.scope.proofs.SearchLaws.{or-left, or-right}
 use Rattle.scope.proofs.TextLaws.{member-append, member-qualified}
 use Rattle.scope.proofs.SoundLaws.{sound}
 

@@ -1,6 +1,6 @@
 -- Searches: what is looked for is here, or in the rest.
 use mathlib.Core.Path.{_≡_, refl, sym, _∙_}
-use mathlib.Core.Bool.{Bool, true, false, _&&_, _||_, true≢false}
+use mathlib.Core.Bool.{Bool, true, false, _&&_, _||_}
 
 -- One step of a search.
 pub record Step (whole here rest : Bool) : Type 0 where
@@ -12,14 +12,6 @@ module _ {whole here rest b : Bool} (s : Step whole here rest) (h : b ≡ here) 
 
   pub missed : b ≡ false → whole ≡ rest
   missed t = s .parts ∙ rw (sym h ∙ t)
-
-pub or-left : (a b : Bool) → a || b ≡ false → a ≡ false
-or-left true b h = absurd (true≢false h)
-or-left false b h = refl
-
-pub or-right : (a b : Bool) → a || b ≡ false → b ≡ false
-or-right true b h = absurd (true≢false h)
-or-right false b h = h
 
 pub or-none : (a : Bool) → a || false ≡ a
 or-none true = refl

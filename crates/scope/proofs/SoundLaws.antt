@@ -5,10 +5,10 @@ use Prim.Native.Nat.{ℕ, _+_, _<_, _≤_}
 use lib.Dec.{ltb}
 use lib.ListN.{length, drop}
 use borrow.Author.Tests.{lt-ltb, le-ltb, ltb-false}
+use Rattle.reading.proofs.Test.{or-left, or-right}
 use Rattle.scope.specs.Limits.{maxContexts, maxEntries, maxParsed}
 use Rattle.scope.specs.Broken.{isBrokenList, anyRepeated, isBrokenSet, anyMisplaced}
 use Rattle.scope.specs.Lent.{Lent, scopeOf, anyTooLong, isBroken}
-use Rattle.scope.proofs.SearchLaws.{or-left, or-right}
 
 -- The counts and the rows.
 module _ (c e p s n : ℕ) where

@@ -10,6 +10,7 @@ use lib.Dec.{ltb}
 use lib.ListN.{length, getD, take, drop, length-append, length-drop}
 use lib.Seq.{length-take-le}
 use borrow.Author.Tests.{lt-ltb, le-ltb, ltb-false}
+use Rattle.reading.proofs.Test.{or-left, or-right}
 use Rattle.text.specs.Refusals.{brokenScope, overLimit}
 use Rattle.scope.specs.declared.scope.Scope.{Scope}
 use Rattle.scope.specs.Limits.{maxContexts, maxEntries, maxName, maxDepth}
@@ -21,7 +22,6 @@ use Rattle.scope.specs.Lent.{held, spanned, listed, anyOutside, scopeOf, isBrok
 use Rattle.scope.specs.Listing.{isBrokenTo, anyBrokenTo, stays, cutAfter, keep, raised}
 use Rattle.scope_calls.specs.Written.{Appended}
 use Rattle.scope.specs.Answers.{lent}
-use Rattle.scope.proofs.SearchLaws.{or-left, or-right}
 use Rattle.scope.proofs.HeldLaws.{held-length}
 use Rattle.scope.proofs.SoundLaws.{sound}
 use Rattle.scope_calls.proofs.UnbrokenLaws.{push-list-leaves}

@@ -7,7 +7,7 @@ use native.Mathlib.Omega.{arith}
 use native.Mathlib.Numerals.{add-one}
 use lib.Dec.{eqb, ltb, leb}
 use borrow.Author.Tests.{eq-eqb, ne-eqb, le-leb, lt-leb, lt-ltb, le-ltb, eqb-true, eqb-false, ltb-false}
-use Rattle.reading.proofs.Test.{by-order}
+use Rattle.reading.proofs.Test.{by-order, or-left, or-right}
 use Rattle.scope.specs.Limits.{maxDepth}
 use Rattle.scope.specs.Entries.{Entry, contextKind}
 use Rattle.scope.specs.Settled.{isRepeated, settledFrom, settled}
@@ -15,7 +15,6 @@ use Rattle.scope.specs.Broken.{isBrokenName, hasParent, isBrokenEntry, anyBroke
 use Rattle.scope.specs.Calls.{deeper}
 use Rattle.scope.specs.Lent.{listed}
 use Rattle.scope.specs.Listing.{isBrokenTo, anyBrokenTo, raised}
-use Rattle.scope.proofs.SearchLaws.{or-left, or-right}
 use Rattle.scope_calls.proofs.SettlesLaws.{AllIn, AllBelow}
 
 -- Tests of numbers, both one more.

@@ -6,7 +6,7 @@ use Prim.Native.Nat.{ℕ, suc, _<_, _≤_}
 use native.Mathlib.Omega.{arith}
 use lib.Dec.{eqb, ltb, leb}
 use borrow.Author.Tests.{eq-eqb, ne-eqb, lt-leb, lt-ltb, le-ltb, ltb-false}
-use Rattle.reading.proofs.Test.{by-order}
+use Rattle.reading.proofs.Test.{by-order, or-left, or-right}
 use Rattle.names.specs.Same.{same}
 use Rattle.names.proofs.SameLaws.{same-sym}
 use Rattle.scope.specs.Entries.{Entry}
@@ -15,7 +15,7 @@ use Rattle.scope.specs.Broken.{anyRepeated, anyMisplaced}
 use Rattle.scope.specs.Calls.{top}
 use Rattle.scope.specs.Listing.{stays, cutAfter, keep}
 use Rattle.scope_calls.specs.Naming.{staysBeside, without}
-use Rattle.scope.proofs.SearchLaws.{or-left, or-right, or-none}
+use Rattle.scope.proofs.SearchLaws.{or-none}
 use Rattle.scope.proofs.ListLaws.{settled-parts}
 
 -- All are of one context; all are of it and deeper than 0.

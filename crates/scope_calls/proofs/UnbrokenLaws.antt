@@ -7,7 +7,7 @@ use native.Mathlib.Omega.{arith}
 use lib.Dec.{eqb, ltb, leb}
 use lib.ListN.{length}
 use borrow.Author.Tests.{eq-eqb, ne-eqb, lt-ltb, le-ltb, leb-true, leb-false, ltb-true, ltb-false, eqb-false}
-use Rattle.reading.proofs.Test.{by-test, by-order}
+use Rattle.reading.proofs.Test.{by-test, by-order, or-left, or-right}
 use Rattle.names.specs.Same.{same, member}
 use Rattle.scope.specs.Limits.{maxContexts, maxEntries, maxParsed, maxDepth}
 use Rattle.scope.specs.Entries.{Entry, variable, contextKind, ParsingScope}
@@ -15,7 +15,6 @@ use Rattle.scope.specs.Settled.{isRepeated, settledFrom, settled}
 use Rattle.scope.specs.Broken.{isBrokenName, hasParent, isBrokenEntry, anyBroken, isBrokenList, anyRepeated, isBrokenSet, anyMisplaced}
 use Rattle.scope.specs.Calls.{Changed, changed, refused, under, top, limited, push, pop, added, entry, deeper, setEntryName, setContext, addParsedName}
 use Rattle.scope.specs.Lent.{listed, anyOutside, pushList, setContextList}
-use Rattle.scope.proofs.SearchLaws.{or-left, or-right}
 use Rattle.names.proofs.SameLaws.{same-sym}
 use Rattle.scope_calls.proofs.SettlesLaws.{AllIn, top-in}
 use Rattle.scope_calls.proofs.DeeperLaws.{listed-in}

@@ -189,6 +189,9 @@ pub fn is_name_part_char(c: u32) -> bool
 pub fn is_white_space(c: u32) -> bool
     ensures { λ r. ⌜ r ≡ spec.isWhite c ⌝ }
 {
+    if is_between(c, 0x21, 0x84) {
+        return false;
+    }
     in_ranges(&WHITE_SPACES, c)
 }
 
