@@ -134,79 +134,67 @@ module _ {t : List ℕ} {i : ℕ} {x : Literal} (s : Inside t i x) (f : CodeFlag
   pub string-text : {e : ℕ} {o : List ℕ} {r : Outcome} → x ≡ TextEnds e → to ≡ max q (e + 2) → ((u : List ℕ) → Gives (outcome (token TokenType.YyEof nothing) e (flagsOf f)) to u r u) → Takes t q (withFlags (flagsOf f) (readString fuel [] i)) o r o
   string-text {e} {o} p r w = takes-given (string-sees (TextEnds e) p r) (w o)
 
--- The window's first two cells.
-module _ (t : List ℕ) (i : ℕ) where
-  first-shown : getD (windowOf 12 t i) 0 0 ≡ shown (cellAt t i)
+-- The character c at i, as the window shows it.
+module _ (t : List ℕ) (i : ℕ) {c : ℕ} (e : c ≡ shown (cellAt t i)) where
+  first-shown : getD (windowOf 12 t i) 0 0 ≡ c
   unfolding windowOf
-  first-shown = refl
+  first-shown = sym e
 
   second-shown : getD (windowOf 12 t i) 1 0 ≡ shown (cellAt t (i + 1))
   unfolding windowOf
   second-shown = rw (add-one i)
 
-  digit-shown : isDigit (getD (windowOf 12 t i) 0 0) ≡ true → holds isDigit (cellAt t i) ≡ true
+  pub digit-starts : isDigit c ≡ true → Starts t i ≡ true
   unfolding isDigit among
-  digit-shown h = shown-holds isDigit (cellAt t i) refl (rw first-shown at h)
-
-  pub digit-starts : {w : List ℕ} → w ≡ windowOf 12 t i → isDigit (getD w 0 0) ≡ true → Starts t i ≡ true
-  digit-starts e h = rw (digit-shown (rw e at h))
-
-  second-digit : isDigit (getD (windowOf 12 t i) 1 0) ≡ true → holds isDigit (cellAt t (i + 1)) ≡ true
-  unfolding isDigit among
-  second-digit h = shown-holds isDigit (cellAt t (i + 1)) refl (rw second-shown at h)
-
-  point-shown : eqb 0x2E (getD (windowOf 12 t i) 0 0) ≡ true → is 0x2E (cellAt t i) ≡ true
-  point-shown h = shown-holds (eqb 0x2E) (cellAt t i) refl (rw first-shown at h)
+  digit-starts h = rw (shown-holds isDigit (cellAt t i) refl (rw e at h))
 
   or-right : (a : Bool) {b : Bool} → b ≡ true → a || b ≡ true
   or-right true e = refl
   or-right false e = e
 
-  pub point-starts : {w : List ℕ} → w ≡ windowOf 12 t i → eqb 0x2E (getD w 0 0) && isDigit (getD w 1 0) ≡ true → Starts t i ≡ true
-  point-starts {w} e h =
-      let b = both (eqb 0x2E (getD w 0 0)) _ h in
-      or-right (holds isDigit (cellAt t i)) (rw (point-shown (rw e at (b .0)), second-digit (rw e at (b .1))))
+  pub point-starts : eqb 0x2E c && isDigit (shown (cellAt t (i + 1))) ≡ true → Starts t i ≡ true
+  unfolding isDigit among
+  point-starts h =
+      let b = both (eqb 0x2E c) _ h in
+      or-right (holds isDigit (cellAt t i)) (rw (shown-holds (eqb 0x2E) (cellAt t i) refl (rw e at (b .0)), shown-holds isDigit (cellAt t (i + 1)) refl (b .1)))
 
-  pub quote-there : {w : List ℕ} → w ≡ windowOf 12 t i → eqb 0x22 (getD w 0 0) ≡ true → i < length t
-  quote-there e h = cell-there (eqb 0x22) t i (shown-holds (eqb 0x22) (cellAt t i) refl (rw (e, first-shown) at h))
+  pub quote-there : eqb 0x22 c ≡ true → i < length t
+  quote-there h = cell-there (eqb 0x22) t i (shown-holds (eqb 0x22) (cellAt t i) refl (rw e at h))
 
-  start-shown : isNameStart (getD (windowOf 12 t i) 0 0) ≡ true → holds isNamePart (cellAt t i) ≡ true
+  pub name-there : isNameStart c ≡ true → holds isNamePart (cellAt t i) ≡ true
   unfolding isNamePart isNameStart isDigit among
-  start-shown h = shown-holds isNamePart (cellAt t i) refl (rw first-shown at (name-start-part (getD (windowOf 12 t i) 0 0) h))
-
-  pub name-there : {w : List ℕ} → w ≡ windowOf 12 t i → isNameStart (getD w 0 0) ≡ true → holds isNamePart (cellAt t i) ≡ true
-  name-there e h = start-shown (rw e at h)
+  name-there h = shown-holds isNamePart (cellAt t i) refl (rw e at (name-start-part c h))
 
 -- A literal ends in the text.
 pub literal-end : {t : List ℕ} {i : ℕ} {x : Literal} → Inside t i x → (y : Literal) → x ≡ y → textEnd y ≤ length t
 literal-end {t} s y p = subst (λ z. textEnd z ≤ length t) p (s .within)
 
 -- What follows the words, and what follows the symbols.
-module _ (f : Flags) (isName : List ℕ → Bool) (w : List ℕ) (i : ℕ) where
-  pub case-digit : {b : Bool} → b ≡ isDigit (getD w 0 0) → b ≡ true → otherCases fuel f isName w i ≡ withFlags f (readNumber fuel i)
-  case-digit p e = rw (sym p ∙ e)
+module _ (f : Flags) (isName : List ℕ → Bool) (t : List ℕ) (i : ℕ) {c : ℕ} (first : c ≡ shown (cellAt t i)) where
+  pub case-digit : {b : Bool} → b ≡ isDigit c → b ≡ true → otherCases fuel f isName (windowOf 12 t i) i ≡ withFlags f (readNumber fuel i)
+  case-digit p e = rw (first-shown t i first, sym p ∙ e)
 
-  module _ {b : Bool} (p : b ≡ isDigit (getD w 0 0)) (e : b ≡ false) {c : Bool} (q : c ≡ isNameStart (getD w 0 0)) where
-    pub case-name : c ≡ true → otherCases fuel f isName w i ≡ readName fuel f isName i
-    case-name d = rw (sym p ∙ e, sym q ∙ d)
+  module _ {b : Bool} (p : b ≡ isDigit c) (e : b ≡ false) {a : Bool} (q : a ≡ isNameStart c) where
+    pub case-name : a ≡ true → otherCases fuel f isName (windowOf 12 t i) i ≡ readName fuel f isName i
+    case-name d = rw (first-shown t i first, sym p ∙ e, sym q ∙ d)
 
-    module _ (d : c ≡ false) {a : Bool} (r : a ≡ same w (codes "            ")) where
-      pub case-end : a ≡ true → otherCases fuel f isName w i ≡ done (outcome (token TokenType.YyEof nothing) i f)
-      case-end h = rw (sym p ∙ e, sym q ∙ d, sym r ∙ h)
+    module _ (d : a ≡ false) {z : Bool} (r : z ≡ same (windowOf 12 t i) (codes "            ")) where
+      pub case-end : z ≡ true → otherCases fuel f isName (windowOf 12 t i) i ≡ done (outcome (token TokenType.YyEof nothing) i f)
+      case-end h = rw (first-shown t i first, sym p ∙ e, sym q ∙ d, sym r ∙ h)
 
-      pub case-nothing : a ≡ false → otherCases fuel f isName w i ≡ done (outcome (token TokenType.YyUndef nothing) i f)
-      case-nothing h = rw (sym p ∙ e, sym q ∙ d, sym r ∙ h)
+      pub case-nothing : z ≡ false → otherCases fuel f isName (windowOf 12 t i) i ≡ done (outcome (token TokenType.YyUndef nothing) i f)
+      case-nothing h = rw (first-shown t i first, sym p ∙ e, sym q ∙ d, sym r ∙ h)
 
-  module _ {b : Bool} (p : b ≡ eqb 0x2E (getD w 0 0) && isDigit (getD w 1 0)) where
-    pub case-point : b ≡ true → behindWords fuel f isName w i ≡ withFlags f (readNumber fuel i)
-    case-point e = rw (sym p ∙ e)
+  module _ {b : Bool} (p : b ≡ eqb 0x2E c && isDigit (shown (cellAt t (i + 1)))) where
+    pub case-point : b ≡ true → behindWords fuel f isName (windowOf 12 t i) i ≡ withFlags f (readNumber fuel i)
+    case-point e = rw (first-shown t i first, second-shown t i first, sym p ∙ e)
 
     module _ (e : b ≡ false) where
-      pub case-quote : eqb 0x22 (getD w 0 0) ≡ true → behindWords fuel f isName w i ≡ withFlags f (readString fuel [] (i + 1))
-      case-quote d = rw (sym p ∙ e, d)
+      pub case-quote : eqb 0x22 c ≡ true → behindWords fuel f isName (windowOf 12 t i) i ≡ withFlags f (readString fuel [] (i + 1))
+      case-quote d = rw (first-shown t i first, second-shown t i first, sym p ∙ e, d)
 
-      pub case-symbol : eqb 0x22 (getD w 0 0) ≡ false → behindWords fuel f isName w i ≡ firstOf fuel symbols f w i (otherCases fuel f isName w i)
-      case-symbol d = rw (sym p ∙ e, d)
+      pub case-symbol : eqb 0x22 c ≡ false → behindWords fuel f isName (windowOf 12 t i) i ≡ firstOf fuel symbols f (windowOf 12 t i) i (otherCases fuel f isName (windowOf 12 t i) i)
+      case-symbol d = rw (first-shown t i first, second-shown t i first, sym p ∙ e, d)
 
 -- Nothing more is looked at.
 pub takes-done : (t : List ℕ) (q : ℕ) (c : spec.Outcome) {o o′ : List ℕ} {r : Outcome} → Gives c q o r o′ → Takes t q (done c) o r o′
@@ -235,8 +223,6 @@ module _ (isName : List ℕ → Bool) (f : Flags) {t : List ℕ} {i : ℕ} (s : 
       let g = takes-on {m = skip fuel} (record { same = s .same }) _ (begins t 0 (readToken isName f)) in
       rw z at (takes-on (window-seen t (s .reach) i) _ g)
 
-  pub token-taken : {w : List ℕ} → w ≡ windowOf 12 t i → {o o′ : List ℕ} {r : Outcome} → Takes t (i + 12) (cases fuel f isName w i) o r o′ → (g : CodeFlags) → flagsOf g ≡ clear UnaryTests (flagsOf (r .flags))
+  pub token-taken : {o o′ : List ℕ} {r : Outcome} → Takes t (i + 12) (cases fuel f isName (windowOf 12 t i) i) o r o′ → (g : CodeFlags) → flagsOf g ≡ clear UnaryTests (flagsOf (r .flags))
       → Taken t isName f o (record { read = r .read; used = r .used; flags = g; reach = r .reach }) o′
-  token-taken e x g h =
-      let y = rw e at (x .sees) in
-      record { read = x .read; sees = rw h (finds (takes-on y _ fronted)); shown = x .shown; left = x .left }
+  token-taken x g h = record { read = x .read; sees = rw h (finds (takes-on (x .sees) _ fronted)); shown = x .shown; left = x .left }

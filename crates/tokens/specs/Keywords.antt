@@ -1,19 +1,20 @@
--- Words and symbols as code has them, rows of numbers; and what the search among them answers.
+-- Words as code has them, rows of numbers, and symbols by their characters; and what the search among them answers.
 use mathlib.Core.Path.{_≡_}
 use mathlib.Core.Bool.{Bool, true, false, cond, _&&_, not}
-use mathlib.Core.List.{List, [], _∷_}
-use Prim.Native.Nat.{ℕ, _+_, _≤_}
+use mathlib.Core.List.{List, [], _∷_, _++_}
+use Prim.Native.Nat.{ℕ, suc, _+_, _≤_, _<_}
 use lib.Dec.{eqb, leb, ltb}
 use lib.ListN.{length, getD, take, drop}
 use Rattle.reading.specs.Codes.{codes}
 use Rattle.reading.specs.Look.{Look, done}
 use Rattle.reading.specs.Cells.{isOneOf}
 use Rattle.reading.specs.Goes.{Goes}
+use Rattle.reading.proofs.Test.{allBelow}
 use Rattle.reading.proofs.Going.{Stands}
 use Rattle.text.specs.Classes.{isSeparator}
 use Rattle.lexer.specs.Flags.{Flags, UnaryTests, Between}
 use Rattle.lexer.specs.Read.{Value, nothing, truth, token, Outcome, outcome}
-use Rattle.lexer.specs.Window.{Follow, anything, next, ahead, When, always, ifSet, ifClear, Row, isFollowed, firstOf, afterWord}
+use Rattle.lexer.specs.Window.{Follow, next, ahead, When, always, ifSet, ifClear, Row, words, isFollowed, firstOf, afterWord}
 use Rattle.lexer.specs.Token.{fuel}
 use Rattle.tokens.specs.declared.keywords.Match.{Match}
 use Rattle.tokens.specs.declared.keywords.Match.the-variants.{Found, None}
@@ -26,9 +27,9 @@ classOf n =
     (cond (eqb 3 n) (isOneOf (codes " ("))
     (cond (eqb 4 n) (isOneOf (codes "<")) (isOneOf (codes "(<")))))
 
--- 0 asks for nothing, 1 to 3 look at the window's next place, all others behind optional whitespace.
+-- Numbers below 4 look at the window's next place, all others behind optional whitespace.
 unfoldable pub followOf : ℕ → Follow
-followOf n = cond (eqb 0 n) anything (cond (ltb n 4) (next (classOf n)) (ahead (classOf n)))
+followOf n = cond (ltb n 4) (next (classOf n)) (ahead (classOf n))
 
 unfoldable pub whenOf : ℕ → When
 whenOf n = cond (eqb 1 n) (ifClear Between) (cond (eqb 2 n) (ifSet Between) (cond (eqb 3 n) (ifSet UnaryTests) always))
@@ -65,10 +66,47 @@ areRows [] (r ∷ rs) = false
 areRows (l ∷ ls) [] = false
 areRows (l ∷ ls) (r ∷ rs) = isRow l r && areRows ls rs
 
--- No word from `from` to k begins with x, so that none of them leads a window that does.
+-- The definition's words: those of letters, and the symbols of two characters behind them.
+unfoldable pub letterWords : List Row
+unfolding words
+letterWords = take 24 words
+
+unfoldable pub pairs : List Row
+unfolding words
+pairs = drop 24 words
+
+-- The letters that each of some rows asks for.
+abbrev pub wordsOf : List Row → List (List ℕ)
+wordsOf [] = []
+wordsOf (r ∷ rs) = r .word ∷ wordsOf rs
+
+unfoldable pub initials : List (List ℕ)
+unfolding letterWords
+initials = wordsOf letterWords
+
+-- Of some symbols, k is the type of the one that is v, 0 where none is: what they give of a window that begins with v.
+pub record Sign (rs : List Row) (v : List ℕ) (k : ℕ) : Type 0 where
+  pub spaceless : cond (eqb 0 k) false (isOneOf v 0x20) ≡ false
+  pub says : (f : Flags) (w : List ℕ) (i : ℕ) (o : Look Outcome) → firstOf fuel rs f (v ++ w) i o ≡ cond (eqb 0 k) o (done (outcome (token k nothing) (i + length v) (afterWord k f)))
+
+-- Which of some words is the first that begins with x, or how many they are.
+unfoldable pub placeOf : List (List ℕ) → ℕ → ℕ
+placeOf [] x = 0
+placeOf (l ∷ ls) x = cond (eqb (getD l 0 0) x) 0 (suc (placeOf ls x))
+
+-- Every row has the next word that begins as its own does.
+abbrev pub isNext : List (List ℕ) → List (List ℕ) → ℕ → Bool
+isNext ls rs k = eqb (getD (getD rs k []) 5 0) (k + 1 + placeOf (drop (k + 1) ls) (getD (getD ls k []) 0 0))
+
+unfoldable pub areLinked : List (List ℕ) → List (List ℕ) → Bool
+unfolding placeOf
+areLinked ls rs = allBelow (isNext ls rs) (length ls)
+
+-- Word k is the first from `from` on that begins with x, so that none before it leads a window that does.
 pub record Skipped (ls : List (List ℕ)) (x from k : ℕ) : Type 0 where
   pub on : from ≤ k
   pub within : k ≤ length ls
+  pub begins : k < length ls → getD (getD ls k []) 0 0 ≡ x
   pub same : (rs : List (List ℕ)) → areRows ls rs ≡ true → (f : Flags) (w : List ℕ) (i : ℕ) (o : Look Outcome)
       → firstOf fuel (rowsOf (drop from ls) (drop from rs)) f (x ∷ w) i o ≡ firstOf fuel (rowsOf (drop k ls) (drop k rs)) f (x ∷ w) i o
 
@@ -92,6 +130,10 @@ pub record Attempt (t : List ℕ) (q : ℕ) (l r : List ℕ) (f : Flags) (w : Li
 -- The answer for a row that fits at i.
 abbrev pub matchOf : List ℕ → ℕ → ℕ → Match
 matchOf r i q = Found (getD r 3 0) (getD r 4 0) (i + getD r 0 0) q
+
+-- The answer for a symbol of n characters at i.
+abbrev pub signMatch : ℕ → ℕ → ℕ → ℕ → Match
+signMatch k n i q = cond (eqb 0 k) (None q) (Found k 0 (i + n) q)
 
 -- Where the word ends that was found, at the earliest and in truth, and the reach.
 abbrev pub leastEnd : ℕ → Match → ℕ

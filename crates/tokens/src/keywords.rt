@@ -1,7 +1,7 @@
-// Words and symbols: rows of numbers that are tried on the window, in the source's order.
+// Words and symbols: words are rows of numbers, tried on the text's characters as the window shows them, in the source's order; a symbol is told by its characters.
 ghost use mathlib.Core.Path.{_≡_};
-ghost use mathlib.Core.Bool.{true};
-ghost use mathlib.Core.List.{[]};
+ghost use mathlib.Core.Bool.{cond, true};
+ghost use mathlib.Core.List.{[], _∷_};
 ghost use Prim.Native.Nat.{_+_, _≤_, _<_};
 ghost use lib.ListN.{length, getD, take};
 ghost use Rattle.reading.specs.Look.{cellAt};
@@ -10,14 +10,13 @@ ghost use Rattle.text.specs.Limits.{maxChars};
 ghost use Rattle.lexer.specs.Window as spec;
 ghost use Rattle.lexer.specs.Shown.{windowOf};
 ghost use Rattle.lexer.specs.FlagsOf.{flagsOf};
-ghost use Rattle.tokens.specs.Keywords.{classOf, followOf, whenOf, rowsOf, Lettered, areRows, Skipped, Followed, Attempt, matchOf, Matched};
+ghost use Rattle.tokens.specs.Keywords.{classOf, followOf, whenOf, rowsOf, Lettered, areRows, areLinked, placeOf, initials, pairs, Sign, signMatch, Followed, Attempt, matchOf, Matched};
 use lexer::flags::Flags;
 use lexer::look;
 use lexer::token_type::TokenType;
+use lexer::window;
 
 // What must follow a word: in the window's next place, or behind optional whitespace.
-const ANYTHING: u32 = 0;
-
 const SPACE: u32 = 1;
 
 const SEPARATOR: u32 = 2;
@@ -44,8 +43,8 @@ pub const FALSE: u32 = 1;
 
 pub const TRUE: u32 = 2;
 
-// Letters, with spaces behind them; and of each word the number of its letters, what must follow, when it is taken, type and value.
-const WORDS: [[u8; 9]; 30] = [
+// Letters, with spaces behind them; and of each word the number of its letters, what must follow, when it is taken, type, value, and the next word that begins as it does.
+const WORDS: [[u8; 9]; 24] = [
     *b"satisfies",
     *b"external ",
     *b"function ",
@@ -70,86 +69,106 @@ const WORDS: [[u8; 9]; 30] = [
     *b"in       ",
     *b"of       ",
     *b"or       ",
-    *b"..       ",
-    *b"**       ",
-    *b"!=       ",
-    *b"<=       ",
-    *b">=       ",
-    *b"->       ",
 ];
 
-const WORD_ROWS: [[u32; 5]; 30] = [
-    [9, SPACE, ALWAYS, TokenType::SATISFIES, NOTHING],
-    [8, SPACE, ALWAYS, TokenType::EXTERNAL, NOTHING],
-    [8, PAREN_OR_LESS, ALWAYS, TokenType::FUNCTION, NOTHING],
-    [8, SPACE, ALWAYS, TokenType::INSTANCE, NOTHING],
-    [7, SPACE, ALWAYS, TokenType::BETWEEN, NOTHING],
-    [7, LESS, ALWAYS, TokenType::CONTEXT, NOTHING],
-    [6, SPACE, ALWAYS, TokenType::RETURN, NOTHING],
-    [5, SPACE, ALWAYS, TokenType::EVERY, NOTHING],
-    [5, SEPARATOR, ALWAYS, TokenType::BOOLEAN, FALSE],
-    [5, LESS, ALWAYS, TokenType::RANGE, NOTHING],
-    [4, SEPARATOR, ALWAYS, TokenType::NULL, NOTHING],
-    [4, SPACE, ALWAYS, TokenType::ELSE, NOTHING],
-    [4, LESS, ALWAYS, TokenType::LIST, NOTHING],
-    [4, SPACE, ALWAYS, TokenType::SOME, NOTHING],
-    [4, SPACE, ALWAYS, TokenType::THEN, NOTHING],
-    [4, SEPARATOR, ALWAYS, TokenType::BOOLEAN, TRUE],
-    [3, SPACE, NOT_BETWEEN, TokenType::AND, NOTHING],
-    [3, SPACE, BETWEEN, TokenType::BETWEEN_AND, NOTHING],
-    [3, SPACE, ALWAYS, TokenType::FOR, NOTHING],
-    [3, SPACE_OR_PAREN, UNARY_TESTS, TokenType::NOT, NOTHING],
-    [2, SPACE, ALWAYS, TokenType::IF, NOTHING],
-    [2, SPACE, ALWAYS, TokenType::IN, NOTHING],
-    [2, SPACE, ALWAYS, TokenType::OF, NOTHING],
-    [2, SPACE, ALWAYS, TokenType::OR, NOTHING],
-    [2, ANYTHING, ALWAYS, TokenType::ELLIPSIS, NOTHING],
-    [2, ANYTHING, ALWAYS, TokenType::EXP, NOTHING],
-    [2, ANYTHING, ALWAYS, TokenType::NE, NOTHING],
-    [2, ANYTHING, ALWAYS, TokenType::LE, NOTHING],
-    [2, ANYTHING, ALWAYS, TokenType::GE, NOTHING],
-    [2, ANYTHING, ALWAYS, TokenType::RIGHT_ARROW, NOTHING],
+const WORD_ROWS: [[u32; 6]; 24] = [
+    [9, SPACE, ALWAYS, TokenType::SATISFIES, NOTHING, 13],
+    [8, SPACE, ALWAYS, TokenType::EXTERNAL, NOTHING, 7],
+    [8, PAREN_OR_LESS, ALWAYS, TokenType::FUNCTION, NOTHING, 8],
+    [8, SPACE, ALWAYS, TokenType::INSTANCE, NOTHING, 20],
+    [7, SPACE, ALWAYS, TokenType::BETWEEN, NOTHING, 24],
+    [7, LESS, ALWAYS, TokenType::CONTEXT, NOTHING, 24],
+    [6, SPACE, ALWAYS, TokenType::RETURN, NOTHING, 9],
+    [5, SPACE, ALWAYS, TokenType::EVERY, NOTHING, 11],
+    [5, SEPARATOR, ALWAYS, TokenType::BOOLEAN, FALSE, 18],
+    [5, LESS, ALWAYS, TokenType::RANGE, NOTHING, 24],
+    [4, SEPARATOR, ALWAYS, TokenType::NULL, NOTHING, 19],
+    [4, SPACE, ALWAYS, TokenType::ELSE, NOTHING, 24],
+    [4, LESS, ALWAYS, TokenType::LIST, NOTHING, 24],
+    [4, SPACE, ALWAYS, TokenType::SOME, NOTHING, 24],
+    [4, SPACE, ALWAYS, TokenType::THEN, NOTHING, 15],
+    [4, SEPARATOR, ALWAYS, TokenType::BOOLEAN, TRUE, 24],
+    [3, SPACE, NOT_BETWEEN, TokenType::AND, NOTHING, 17],
+    [3, SPACE, BETWEEN, TokenType::BETWEEN_AND, NOTHING, 24],
+    [3, SPACE, ALWAYS, TokenType::FOR, NOTHING, 24],
+    [3, SPACE_OR_PAREN, UNARY_TESTS, TokenType::NOT, NOTHING, 24],
+    [2, SPACE, ALWAYS, TokenType::IF, NOTHING, 21],
+    [2, SPACE, ALWAYS, TokenType::IN, NOTHING, 24],
+    [2, SPACE, ALWAYS, TokenType::OF, NOTHING, 23],
+    [2, SPACE, ALWAYS, TokenType::OR, NOTHING, 24],
 ];
 
-const SYMBOLS: [[u8; 9]; 17] = [
-    *b".        ",
-    *b",        ",
-    *b":        ",
-    *b"+        ",
-    *b"-        ",
-    *b"*        ",
-    *b"/        ",
-    *b"=        ",
-    *b"<        ",
-    *b">        ",
-    *b"(        ",
-    *b")        ",
-    *b"[        ",
-    *b"]        ",
-    *b"{        ",
-    *b"}        ",
-    *b"@        ",
-];
+// The first word that begins with x, 24 where none does. The tables are not static data: who takes them copies them, so that this is asked first.
+fn first_row(x: u32) -> usize
+    ensures { λ r. ⌜ r ≡ placeOf initials x ⌝ }
+{
+    match x {
+        0x61 => 16, // a
+        0x62 => 4, // b
+        0x63 => 5, // c
+        0x65 => 1, // e
+        0x66 => 2, // f
+        0x69 => 3, // i
+        0x6C => 12, // l
+        0x6E => 10, // n
+        0x6F => 22, // o
+        0x72 => 6, // r
+        0x73 => 0, // s
+        0x74 => 14, // t
+        _ => 24,
+    }
+}
 
-const SYMBOL_ROWS: [[u32; 5]; 17] = [
-    [1, ANYTHING, ALWAYS, TokenType::DOT, NOTHING],
-    [1, ANYTHING, ALWAYS, TokenType::COMMA, NOTHING],
-    [1, ANYTHING, ALWAYS, TokenType::COLON, NOTHING],
-    [1, ANYTHING, ALWAYS, TokenType::PLUS, NOTHING],
-    [1, ANYTHING, ALWAYS, TokenType::MINUS, NOTHING],
-    [1, ANYTHING, ALWAYS, TokenType::MUL, NOTHING],
-    [1, ANYTHING, ALWAYS, TokenType::DIV, NOTHING],
-    [1, ANYTHING, ALWAYS, TokenType::EQ, NOTHING],
-    [1, ANYTHING, ALWAYS, TokenType::LT, NOTHING],
-    [1, ANYTHING, ALWAYS, TokenType::GT, NOTHING],
-    [1, ANYTHING, ALWAYS, TokenType::LEFT_PAREN, NOTHING],
-    [1, ANYTHING, ALWAYS, TokenType::RIGHT_PAREN, NOTHING],
-    [1, ANYTHING, ALWAYS, TokenType::LEFT_BRACKET, NOTHING],
-    [1, ANYTHING, ALWAYS, TokenType::RIGHT_BRACKET, NOTHING],
-    [1, ANYTHING, ALWAYS, TokenType::LEFT_BRACE, NOTHING],
-    [1, ANYTHING, ALWAYS, TokenType::RIGHT_BRACE, NOTHING],
-    [1, ANYTHING, ALWAYS, TokenType::AT, NOTHING],
-];
+// The type of the symbol that c is, 0 where it is none.
+fn symbol(c: u32) -> u32
+    ensures { λ r. ⌜ Sign spec.symbols (c ∷ []) r ⌝ }
+{
+    match c {
+        0x2E => TokenType::DOT,
+        0x2C => TokenType::COMMA,
+        0x3A => TokenType::COLON,
+        0x2B => TokenType::PLUS,
+        0x2D => TokenType::MINUS,
+        0x2A => TokenType::MUL,
+        0x2F => TokenType::DIV,
+        0x3D => TokenType::EQ,
+        0x3C => TokenType::LT,
+        0x3E => TokenType::GT,
+        0x28 => TokenType::LEFT_PAREN,
+        0x29 => TokenType::RIGHT_PAREN,
+        0x5B => TokenType::LEFT_BRACKET,
+        0x5D => TokenType::RIGHT_BRACKET,
+        0x7B => TokenType::LEFT_BRACE,
+        0x7D => TokenType::RIGHT_BRACE,
+        0x40 => TokenType::AT,
+        _ => 0,
+    }
+}
+
+// A type where its symbol stands, else 0.
+fn only(hit: bool, kind: u32) -> u32
+    ensures { λ r. ⌜ r ≡ cond hit kind 0 ⌝ }
+{
+    if hit {
+        return kind;
+    }
+    0
+}
+
+// The type of the symbol that c and d are, 0 where they are none.
+fn pair(c: u32, d: u32) -> u32
+    ensures { λ r. ⌜ Sign pairs (c ∷ d ∷ []) r ⌝ }
+{
+    match c {
+        0x2E => only(0x2E == d, TokenType::ELLIPSIS),
+        0x2A => only(0x2A == d, TokenType::EXP),
+        0x21 => only(0x3D == d, TokenType::NE),
+        0x3C => only(0x3D == d, TokenType::LE),
+        0x3E => only(0x3D == d, TokenType::GE),
+        0x2D => only(0x3E == d, TokenType::RIGHT_ARROW),
+        _ => 0,
+    }
+}
 
 // Whether c may follow a word, by the number of what must.
 fn is_follower(follow: u32, c: u32) -> bool
@@ -186,15 +205,12 @@ pub struct Tried {
 }
 
 // Whether what must follow stands behind a word of n letters at i.
-fn follows(rest: &[u32], i: usize, w: [u32; 12], n: usize, follow: u32, reach: usize) -> Tried
+fn follows(rest: &[u32], i: usize, n: usize, follow: u32, reach: usize) -> Tried
     requires { ⌜ (length (now rest) ≤ maxChars) × (n < 12) × (i + n ≤ length (now rest)) × (reach ≤ length (now rest) + 12) ⌝ }
-    ensures { λ r. ⌜ Followed (now (rest .entry)) reach (followOf follow) w n i (r .hit) (r .reach) ⌝ }
+    ensures { λ r. ⌜ Followed (now (rest .entry)) reach (followOf follow) (windowOf 12 (now (rest .entry)) i) n i (r .hit) (r .reach) ⌝ }
 {
-    if ANYTHING == follow {
-        return Tried { hit: true, reach };
-    }
     if follow < LESS {
-        let hit = is_follower(follow, w[n]);
+        let hit = is_follower(follow, window::shown_at(rest, i + n));
         return Tried { hit, reach };
     }
     let j = look::blanks(rest, i + n);
@@ -226,14 +242,14 @@ fn wide(b: u8) -> u32
     b as u32
 }
 
-// Whether the first n letters of word k lead the window.
-fn leads(words: &[[u8; 9]], k: usize, n: usize, w: [u32; 12]) -> bool
-    requires { ⌜ (k < length (now words)) × (n ≤ 9) × (n ≤ length (getD (now words) k [])) ⌝ }
-    ensures { λ r. ⌜ r ≡ spec.leads (take n (getD (now (words .entry)) k [])) w ⌝ }
+// Whether the first n letters of word k lead the window at i.
+fn leads(words: &[[u8; 9]], k: usize, n: usize, rest: &[u32], i: usize) -> bool
+    requires { ⌜ (k < length (now words)) × (n ≤ 9) × (n ≤ length (getD (now words) k [])) × (length (now rest) ≤ maxChars) × (i ≤ length (now rest)) ⌝ }
+    ensures { λ r. ⌜ r ≡ spec.leads (take n (getD (now (words .entry)) k [])) (windowOf 12 (now (rest .entry)) i) ⌝ }
 {
     let mut j: usize = 0;
     while j < n {
-        if wide(words[k][j]) != w[j] {
+        if wide(words[k][j]) != window::shown_at(rest, i + j) {
             return false;
         }
         j += 1;
@@ -241,43 +257,27 @@ fn leads(words: &[[u8; 9]], k: usize, n: usize, w: [u32; 12]) -> bool
     true
 }
 
-// The first word from `from` on that begins with x, or the number of words.
-fn next_word(words: &[[u8; 9]], from: usize, x: u32) -> usize
-    requires { ⌜ from ≤ length (now words) ⌝ }
-    ensures { λ r. ⌜ Skipped (now (words .entry)) x from r ⌝ }
-{
-    let mut k = from;
-    while k < words.len() {
-        if wide(words[k][0]) == x {
-            return k;
-        }
-        k += 1;
-    }
-    k
-}
-
 // Whether row k fits the window at i.
 fn try_row(
     words: &[[u8; 9]],
-    rows: &[[u32; 5]],
+    rows: &[[u32; 6]],
     k: usize,
     rest: &[u32],
     i: usize,
-    w: [u32; 12],
     flags: Flags,
     reach: usize,
 ) -> Tried
-    requires { ⌜ (k < length (now words)) × (k < length (now rows)) × (Lettered (getD (now words) k []) (getD (now rows) k [])) × (length (now rest) ≤ maxChars) × (i ≤ length (now rest)) × (w ≡ windowOf 12 (now rest) i) × (reach ≤ length (now rest) + 12) ⌝ }
-    ensures { λ r. ⌜ Attempt (now (rest .entry)) reach (getD (now (words .entry)) k []) (getD (now (rows .entry)) k []) (flagsOf flags) w i (r .hit) (r .reach) ⌝ }
+    requires { ⌜ (k < length (now words)) × (k < length (now rows)) × (Lettered (getD (now words) k []) (getD (now rows) k [])) × (length (now rest) ≤ maxChars) × (i ≤ length (now rest)) × (reach ≤ length (now rest) + 12) ⌝ }
+    ensures { λ r. ⌜ Attempt (now (rest .entry)) reach (getD (now (words .entry)) k []) (getD (now (rows .entry)) k []) (flagsOf flags) (windowOf 12 (now (rest .entry)) i) i (r .hit) (r .reach) ⌝ }
 {
     if !is_taken(rows[k][2], flags) {
         return Tried { hit: false, reach };
     }
     let n = scope::compare::wide(rows[k][0]);
-    if !leads(words, k, n, w) {
+    if !leads(words, k, n, rest, i) {
         return Tried { hit: false, reach };
     }
-    follows(rest, i, w, n, rows[k][1], reach)
+    follows(rest, i, n, rows[k][1], reach)
 }
 
 // Found: type, value (by its number above), end and reach of the word. None: the reach.
@@ -287,7 +287,7 @@ pub enum Match {
 }
 
 // The answer if row k fits at i.
-fn answer(rows: &[[u32; 5]], k: usize, i: usize, reach: usize) -> Match
+fn answer(rows: &[[u32; 6]], k: usize, i: usize, reach: usize) -> Match
     requires { ⌜ (k < length (now rows)) × (i ≤ maxChars) × (getD (getD (now rows) k []) 0 0 ≤ 9) ⌝ }
     ensures { λ r. ⌜ r ≡ matchOf (getD (now (rows .entry)) k []) i reach ⌝ }
 {
@@ -295,48 +295,66 @@ fn answer(rows: &[[u32; 5]], k: usize, i: usize, reach: usize) -> Match
     Match::Found(rows[k][3], rows[k][4], i + n, reach)
 }
 
-// The first row that fits the window at i, r being the reach so far.
+// The first row that fits the window at i, where `first` is the first that begins as it does and r the reach so far.
 fn first_of(
     words: &[[u8; 9]],
-    rows: &[[u32; 5]],
+    rows: &[[u32; 6]],
+    first: usize,
     rest: &[u32],
     i: usize,
-    w: [u32; 12],
     flags: Flags,
     r: usize,
 ) -> Match
-    requires { ⌜ (areRows (now words) (now rows) ≡ true) × (length (now rest) ≤ maxChars) × (i ≤ length (now rest)) × (w ≡ windowOf 12 (now rest) i) × (r ≤ length (now rest) + 12) ⌝ }
-    ensures { λ m. ⌜ Matched (rowsOf (now (words .entry)) (now (rows .entry))) (now (rest .entry)) r i w (flagsOf flags) m ⌝ }
+    requires { ⌜ (areRows (now words) (now rows) ≡ true) × (areLinked (now words) (now rows) ≡ true) × (first ≡ placeOf (now words) (spec.shown (cellAt (now rest) i))) × (length (now rest) ≤ maxChars) × (i ≤ length (now rest)) × (r ≤ length (now rest) + 12) ⌝ }
+    ensures { λ m. ⌜ Matched (rowsOf (now (words .entry)) (now (rows .entry))) (now (rest .entry)) r i (windowOf 12 (now (rest .entry)) i) (flagsOf flags) m ⌝ }
 {
     let mut reach = r;
-    let mut k = next_word(words, 0, w[0]);
+    let mut k = first;
     while k < words.len() {
-        let t = try_row(words, rows, k, rest, i, w, flags, reach);
+        let t = try_row(words, rows, k, rest, i, flags, reach);
         reach = t.reach;
         if t.hit {
             return answer(rows, k, i, reach);
         }
-        k = next_word(words, k + 1, w[0]);
+        k = scope::compare::wide(rows[k][5]);
     }
     Match::None(reach)
 }
 
-// The first word or symbol of two characters that fits the window at i, which has been looked at.
-// Ruled out, among others: `and` taken for And inside a between; a reach without the look behind `list` where no `<` follows.
-pub fn first_word(rest: &[u32], i: usize, w: [u32; 12], flags: Flags) -> Match
-    requires { ⌜ (length (now rest) ≤ maxChars) × (i ≤ length (now rest)) × (w ≡ windowOf 12 (now rest) i) ⌝ }
-    ensures { λ m. ⌜ Matched spec.words (now (rest .entry)) (i + 12) i w (flagsOf flags) m ⌝ }
+// The answer for a symbol of n characters at i by its type, 0 where none stands there.
+fn of_sign(kind: u32, n: usize, i: usize, reach: usize) -> Match
+    requires { ⌜ (i ≤ maxChars) × (n ≤ 2) ⌝ }
+    ensures { λ m. ⌜ m ≡ signMatch kind n i reach ⌝ }
 {
-    first_of(&WORDS, &WORD_ROWS, rest, i, w, flags, i + 12)
+    if 0 == kind {
+        return Match::None(reach);
+    }
+    Match::Found(kind, NOTHING, i + n, reach)
 }
 
-// The symbol of one character that fits the window at i, r being the reach that the words have made.
-// Ruled out, among others: the text's end taken for a symbol; the reach set back to the window's.
-pub fn first_symbol(rest: &[u32], i: usize, w: [u32; 12], flags: Flags, r: usize) -> Match
-    requires { ⌜ (length (now rest) ≤ maxChars) × (i ≤ length (now rest)) × (w ≡ windowOf 12 (now rest) i) × (r ≤ length (now rest) + 12) ⌝ }
-    ensures { λ m. ⌜ Matched spec.symbols (now (rest .entry)) r i w (flagsOf flags) m ⌝ }
+// The first word or symbol of two characters that fits the window at i, which has been looked at and begins with c.
+// Ruled out, among others: `and` taken for And inside a between; a reach without the look behind `list` where no `<` follows.
+pub fn first_word(rest: &[u32], i: usize, c: u32, flags: Flags) -> Match
+    requires { ⌜ (length (now rest) ≤ maxChars) × (i ≤ length (now rest)) × (c ≡ spec.shown (cellAt (now rest) i)) ⌝ }
+    ensures { λ m. ⌜ Matched spec.words (now (rest .entry)) (i + 12) i (windowOf 12 (now (rest .entry)) i) (flagsOf flags) m ⌝ }
 {
-    first_of(&SYMBOLS, &SYMBOL_ROWS, rest, i, w, flags, r)
+    let k = first_row(c);
+    if k < 24 {
+        return first_of(&WORDS, &WORD_ROWS, k, rest, i, flags, i + 12);
+    }
+    let d = window::shown_at(rest, i + 1);
+    let kind = pair(c, d);
+    of_sign(kind, 2, i, i + 12)
+}
+
+// The symbol of one character that fits the window at i, which begins with c; r is the reach that the words have made.
+// Ruled out, among others: the text's end taken for a symbol; the reach set back to the window's.
+pub fn first_symbol(rest: &[u32], i: usize, c: u32, flags: Flags, r: usize) -> Match
+    requires { ⌜ (length (now rest) ≤ maxChars) × (i ≤ length (now rest)) × (c ≡ spec.shown (cellAt (now rest) i)) × (r ≤ length (now rest) + 12) ⌝ }
+    ensures { λ m. ⌜ Matched spec.symbols (now (rest .entry)) r i (windowOf 12 (now (rest .entry)) i) (flagsOf flags) m ⌝ }
+{
+    let kind = symbol(c);
+    of_sign(kind, 1, i, r)
 }
 
 // The flags after a word of this type: BetweenAnd clears `between`.

@@ -4,12 +4,12 @@ ghost use mathlib.Core.Bool.{true, false, _&&_, _||_};
 ghost use mathlib.Core.List.{List, []};
 ghost use Prim.Native.Nat.{ℕ, _+_, _*_, _≤_};
 ghost use lib.Dec.{eqb};
-ghost use lib.ListN.{length, getD};
+ghost use lib.ListN.{length};
 ghost use Rattle.reading.specs.Codes.{codes};
 ghost use Rattle.reading.specs.Look.{cellAt};
 ghost use Rattle.reading.specs.Cells.{holds, is};
 ghost use Rattle.text.specs.Limits.{maxChars};
-ghost use Rattle.text.specs.Classes.{isDigit, isNamePart};
+ghost use Rattle.text.specs.Classes.{isDigit};
 ghost use Rattle.names.specs.Same.{same};
 ghost use Rattle.scope.specs.Keys.{isName};
 ghost use Rattle.scope.specs.Capped.{Capped};
@@ -18,7 +18,7 @@ ghost use Rattle.scope.specs.Answers.{lent};
 ghost use Rattle.lexer.specs.Read as spec;
 ghost use Rattle.lexer.specs.Number.{readNumber};
 ghost use Rattle.lexer.specs.Text.{readString};
-ghost use Rattle.lexer.specs.Window.{afterWord};
+ghost use Rattle.lexer.specs.Window.{shown, afterWord};
 ghost use Rattle.lexer.specs.Token.{fuel, withFlags, otherCases, behindWords, cases};
 ghost use Rattle.lexer.specs.Shown.{windowOf};
 ghost use Rattle.tokens.specs.Keywords.{valueOf};
@@ -31,6 +31,7 @@ use lexer::string::Literal;
 use lexer::token::Outcome;
 use lexer::token::Read;
 use lexer::token_type::TokenType;
+use lexer::window;
 use scope::scope::Scope;
 
 // A token without a value.
@@ -127,10 +128,12 @@ fn string_at(rest: &[u32], i: usize, q: usize, flags: Flags, out: &mut [u32]) ->
     }
 }
 
-// Whether the window shows nothing but spaces, as it does at the text's end.
-fn is_blank(w: [u32; 12]) -> bool
-    ensures { λ r. ⌜ r ≡ same w (codes "            ") ⌝ }
+// Whether the window at i shows nothing but spaces, as it does at the text's end.
+fn is_blank(rest: &[u32], i: usize) -> bool
+    requires { ⌜ (length (now rest) ≤ maxChars) × (i ≤ length (now rest)) ⌝ }
+    ensures { λ r. ⌜ r ≡ same (windowOf 12 (now (rest .entry)) i) (codes "            ") ⌝ }
 {
+    let w = window::window(rest, i);
     names::fixed::is(&w, b"            ")
 }
 
@@ -138,7 +141,7 @@ fn is_blank(w: [u32; 12]) -> bool
 fn other_cases(
     rest: &[u32],
     i: usize,
-    w: [u32; 12],
+    c: u32,
     q: usize,
     flags: Flags,
     s: Scope,
@@ -148,14 +151,14 @@ fn other_cases(
     out: &mut [u32],
     scratch: &mut [u32],
 ) -> Outcome
-    requires { ⌜ (length (now rest) ≤ maxChars) × (i ≤ length (now rest)) × (w ≡ windowOf 12 (now rest) i) × (length (now rest) ≤ length (now out)) × Searchable (now rest) (lent s (now slots) (now names)) cap (now scratch) ⌝ }
-    ensures { λ r. ⌜ Takes (now (rest .entry)) q (otherCases fuel (flagsOf flags) (isName (scopeOf (lent s (now (slots .entry)) (now (names .entry))))) w i) (now (out .entry)) r (now (out .exit))
+    requires { ⌜ (length (now rest) ≤ maxChars) × (i ≤ length (now rest)) × (c ≡ shown (cellAt (now rest) i)) × (length (now rest) ≤ length (now out)) × Searchable (now rest) (lent s (now slots) (now names)) cap (now scratch) ⌝ }
+    ensures { λ r. ⌜ Takes (now (rest .entry)) q (otherCases fuel (flagsOf flags) (isName (scopeOf (lent s (now (slots .entry)) (now (names .entry))))) (windowOf 12 (now (rest .entry)) i) i) (now (out .entry)) r (now (out .exit))
         × (now (scratch .exit) ≡ now (scratch .entry)) ⌝ }
 {
-    if text::classes::is_digit(w[0]) {
+    if text::classes::is_digit(c) {
         return number_at(rest, i, q, flags, out);
     }
-    if text::classes::is_name_start_char(w[0]) {
+    if text::classes::is_name_start_char(c) {
         let o = naming::name::read_name(rest, i, flags, s, slots, names, cap, out, scratch);
         let read = o.read;
         let used = o.used;
@@ -168,18 +171,19 @@ fn other_cases(
             reach,
         };
     }
-    if is_blank(w) {
+    if is_blank(rest, i) {
         return plain(TokenType::YY_EOF, i, flags, q);
     }
     plain(TokenType::YY_UNDEF, i, flags, q)
 }
 
-// Whether the window begins with a point and a digit.
-fn begins_with_point(w: [u32; 12]) -> bool
-    ensures { λ r. ⌜ r ≡ eqb 0x2E (getD w 0 0) && isDigit (getD w 1 0) ⌝ }
+// Whether c, the character at i, is a point before a digit.
+fn begins_with_point(rest: &[u32], i: usize, c: u32) -> bool
+    requires { ⌜ i ≤ maxChars ⌝ }
+    ensures { λ r. ⌜ r ≡ eqb 0x2E c && isDigit (shown (cellAt (now (rest .entry)) (i + 1))) ⌝ }
 {
-    if 0x2E == w[0] {
-        return text::classes::is_digit(w[1]);
+    if 0x2E == c {
+        return text::classes::is_digit(window::shown_at(rest, i + 1));
     }
     false
 }
@@ -188,7 +192,7 @@ fn begins_with_point(w: [u32; 12]) -> bool
 fn behind_words(
     rest: &[u32],
     i: usize,
-    w: [u32; 12],
+    c: u32,
     q: usize,
     flags: Flags,
     s: Scope,
@@ -198,23 +202,23 @@ fn behind_words(
     out: &mut [u32],
     scratch: &mut [u32],
 ) -> Outcome
-    requires { ⌜ (length (now rest) ≤ maxChars) × (i ≤ length (now rest)) × (w ≡ windowOf 12 (now rest) i) × (length (now rest) ≤ length (now out)) × (q ≤ length (now rest) + 12) × Searchable (now rest) (lent s (now slots) (now names)) cap (now scratch) ⌝ }
-    ensures { λ r. ⌜ Takes (now (rest .entry)) q (behindWords fuel (flagsOf flags) (isName (scopeOf (lent s (now (slots .entry)) (now (names .entry))))) w i) (now (out .entry)) r (now (out .exit))
+    requires { ⌜ (length (now rest) ≤ maxChars) × (i ≤ length (now rest)) × (c ≡ shown (cellAt (now rest) i)) × (length (now rest) ≤ length (now out)) × (q ≤ length (now rest) + 12) × Searchable (now rest) (lent s (now slots) (now names)) cap (now scratch) ⌝ }
+    ensures { λ r. ⌜ Takes (now (rest .entry)) q (behindWords fuel (flagsOf flags) (isName (scopeOf (lent s (now (slots .entry)) (now (names .entry))))) (windowOf 12 (now (rest .entry)) i) i) (now (out .entry)) r (now (out .exit))
         × (now (scratch .exit) ≡ now (scratch .entry)) ⌝ }
 {
-    if begins_with_point(w) {
+    if begins_with_point(rest, i, c) {
         return number_at(rest, i, q, flags, out);
     }
-    if 0x22 == w[0] {
+    if 0x22 == c {
         return string_at(rest, i, q, flags, out);
     }
-    let m = crate::keywords::first_symbol(rest, i, w, flags, q);
+    let m = crate::keywords::first_symbol(rest, i, c, flags, q);
     match m {
         Match::Found(kind, value, end, reach) => of_row(kind, value, end, flags, reach),
         Match::None(reach) => other_cases(
             rest,
             i,
-            w,
+            c,
             reach,
             flags,
             s,
@@ -227,11 +231,10 @@ fn behind_words(
     }
 }
 
-// The cases of the window at i, which has been looked at, in the source's order.
+// The cases of the window at i, which counts as looked at, in the source's order.
 fn by_window(
     rest: &[u32],
     i: usize,
-    w: [u32; 12],
     flags: Flags,
     s: Scope,
     slots: &[[u32; 4]],
@@ -240,17 +243,18 @@ fn by_window(
     out: &mut [u32],
     scratch: &mut [u32],
 ) -> Outcome
-    requires { ⌜ (length (now rest) ≤ maxChars) × (i ≤ length (now rest)) × (w ≡ windowOf 12 (now rest) i) × (length (now rest) ≤ length (now out)) × Searchable (now rest) (lent s (now slots) (now names)) cap (now scratch) ⌝ }
-    ensures { λ r. ⌜ Takes (now (rest .entry)) (i + 12) (cases fuel (flagsOf flags) (isName (scopeOf (lent s (now (slots .entry)) (now (names .entry))))) w i) (now (out .entry)) r (now (out .exit))
+    requires { ⌜ (length (now rest) ≤ maxChars) × (i ≤ length (now rest)) × (length (now rest) ≤ length (now out)) × Searchable (now rest) (lent s (now slots) (now names)) cap (now scratch) ⌝ }
+    ensures { λ r. ⌜ Takes (now (rest .entry)) (i + 12) (cases fuel (flagsOf flags) (isName (scopeOf (lent s (now (slots .entry)) (now (names .entry))))) (windowOf 12 (now (rest .entry)) i) i) (now (out .entry)) r (now (out .exit))
         × (now (scratch .exit) ≡ now (scratch .entry)) ⌝ }
 {
-    let m = crate::keywords::first_word(rest, i, w, flags);
+    let c = window::shown_at(rest, i);
+    let m = crate::keywords::first_word(rest, i, c, flags);
     match m {
         Match::Found(kind, value, end, reach) => of_row(kind, value, end, flags, reach),
         Match::None(reach) => behind_words(
             rest,
             i,
-            w,
+            c,
             reach,
             flags,
             s,
@@ -281,8 +285,7 @@ pub fn read_token(
         × (now (scratch .exit) ≡ now (scratch .entry)) ⌝ }
 {
     let i = lexer::skip::skip(rest);
-    let w = lexer::window::window(rest, i);
-    let o = by_window(rest, i, w, flags, s, slots, names, cap, out, scratch);
+    let o = by_window(rest, i, flags, s, slots, names, cap, out, scratch);
     let read = o.read;
     let used = o.used;
     let before = o.flags;

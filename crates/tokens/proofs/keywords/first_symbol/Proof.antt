@@ -1,31 +1,30 @@
--- The rows of numbers are the symbols of the definition, by computation.
-use mathlib.Core.Path.{refl}
+-- The window begins with the one character.
+use mathlib.Core.Path.{ap}
+use mathlib.Core.List.{[], _∷_}
+use Prim.Native.Nat.{ℕ}
 use native.Mathlib.Omega.{arith}
-use Rattle.lexer.specs.Window.{symbols}
-use Rattle.tokens.specs.Keywords.{rowsOf, areRows}
-use Rattle.tokens.proofs.KeywordLaws.{same-rows}
 use borrow.Author.Needs.{needs}
+use Rattle.lexer.specs.Shown.{windowOf}
+use Rattle.lexer.specs.FlagsOf.{flagsOf}
+use Rattle.tokens.proofs.KeywordLaws.{sign-matched}
 use Rattle.tokens.proofs.keywords.first_symbol.Statement.{statement}
 use Rattle.tokens.proofs.keywords.first_symbol.Tie as tie
 use Rattle.tokens.proofs.keywords.first_symbol.Reads as reads
 use Rattle.tokens.proofs.keywords.first_symbol.Lts as lts
-use Rattle.tokens.proofs.keywords.first_of.Reads as first-of-reads
+use Rattle.tokens.proofs.keywords.of_sign.Reads as of-sign-reads
+use Rattle.tokens.proofs.keywords.symbol.Reads as symbol-reads
 
-slice-aggregate-first-of : tie.Need-slice-aggregate-first-of
-slice-aggregate-first-of c = search needs
+symbol-requires : tie.Need-symbol-requires
+symbol-requires c κs = search needs
 
-slice-aggregate-first-of-2 : tie.Need-slice-aggregate-first-of-2
-slice-aggregate-first-of-2 c = search needs
-
-first-of-requires : tie.Need-first-of-requires
-unfolding areRows
-first-of-requires c κs = (refl, omega arith, omega arith, c .before .before .before .pre .2, omega arith)
+of-sign-requires : tie.Need-of-sign-requires
+of-sign-requires c κs = search needs
 
 returns : tie.Need-returns
-unfolding symbols rowsOf
-returns c = same-rows {ss = symbols} (c .first-of .ensures) refl
+unfolding windowOf
+returns c =
+    let k = c .before .before .before in
+    sign-matched (c .before .symbol .ensures) _ 1 11 _ _ (flagsOf (k .args .flags)) (ap (λ (x : ℕ). x ∷ []) (k .pre .2)) (omega arith) (omega arith) (omega arith) (omega arith) (c .of-sign .ensures)
 
 pub first-symbol-spec : {M : Type 1} → statement M
-first-symbol-spec =
-    tie.close
-    (tie.spec slice-aggregate-first-of slice-aggregate-first-of-2 first-of-requires returns)
+first-symbol-spec = tie.close (tie.spec symbol-requires of-sign-requires returns)

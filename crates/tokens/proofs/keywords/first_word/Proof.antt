@@ -1,15 +1,22 @@
--- The rows of numbers are the words of the definition, by computation.
-use mathlib.Core.Path.{refl}
+-- The first character decides between the words of letters, which are the definition's by computation, and the symbols of two characters.
+use mathlib.Core.Path.{refl, ap, _∙_}
 use native.Mathlib.Omega.{arith}
-use Rattle.lexer.specs.Window.{words}
-use Rattle.tokens.specs.Keywords.{rowsOf, areRows}
-use Rattle.tokens.proofs.KeywordLaws.{same-rows}
+use Rattle.lexer.specs.FlagsOf.{flagsOf}
+use Rattle.tokens.specs.Keywords.{rowsOf, areRows, areLinked, placeOf, letterWords, initials}
+use Rattle.tokens.proofs.KeywordLaws.{same-rows, by-letters, by-pairs, sign-matched, two-shown}
 use borrow.Author.Needs.{needs}
 use Rattle.tokens.proofs.keywords.first_word.Statement.{statement}
 use Rattle.tokens.proofs.keywords.first_word.Tie as tie
 use Rattle.tokens.proofs.keywords.first_word.Reads as reads
 use Rattle.tokens.proofs.keywords.first_word.Lts as lts
+use Rattle.lexer.proofs.window.shown_at.Reads as shown-at-reads
 use Rattle.tokens.proofs.keywords.first_of.Reads as first-of-reads
+use Rattle.tokens.proofs.keywords.first_row.Reads as first-row-reads
+use Rattle.tokens.proofs.keywords.of_sign.Reads as of-sign-reads
+use Rattle.tokens.proofs.keywords.pair.Reads as pair-reads
+
+first-row-requires : tie.Need-first-row-requires
+first-row-requires c κs = search needs
 
 slice-aggregate-first-of : tie.Need-slice-aggregate-first-of
 slice-aggregate-first-of c = search needs
@@ -21,19 +28,53 @@ add-first-of : tie.Need-add-first-of
 add-first-of c = search needs
 
 first-of-requires : tie.Need-first-of-requires
-unfolding areRows
-first-of-requires c κs = (refl, omega arith, omega arith, c .before .before .before .pre .2, omega arith)
+unfolding areRows areLinked placeOf initials
+first-of-requires c κs = let k = c .before .before .before in (refl, refl, k .first-row .ensures ∙ ap (placeOf initials) (k .before .before .pre .2), omega arith, omega arith, omega arith)
 
 returns : tie.Need-returns
-unfolding words rowsOf
-returns c = same-rows {ss = words} (c .first-of .ensures) refl
+unfolding letterWords rowsOf
+returns c =
+    let k = c .before .before .before .before in
+    let z = k .before .before in
+    by-letters (z .args .rest .now) (z .args .i) (k .first-row .ensures ∙ ap (placeOf initials) (z .pre .2)) (omega arith) (same-rows {ss = letterWords} (c .first-of .ensures) refl)
+
+add-shown-at : tie.Need-add-shown-at
+add-shown-at c = search needs
+
+shown-at-requires : tie.Need-shown-at-requires
+shown-at-requires c κs = search needs
+
+pair-requires : tie.Need-pair-requires
+pair-requires c κs = search needs
+
+add-of-sign : tie.Need-add-of-sign
+add-of-sign c = search needs
+
+of-sign-requires : tie.Need-of-sign-requires
+of-sign-requires c κs = search needs
+
+returns-2 : tie.Need-returns-2
+returns-2 c =
+    let k = c .before .before .before .before in
+    let z = k .before .before in
+    let t = z .args .rest .now in
+    let i = z .args .i in
+    by-pairs t i (k .first-row .ensures ∙ ap (placeOf initials) (z .pre .2)) (omega arith)
+    (sign-matched (c .before .pair .ensures) t 2 10 i _ (flagsOf (z .args .flags)) (two-shown t i (z .pre .2) (c .before .before .shown-at .ensures)) (omega arith) (omega arith) (omega arith) (omega arith) (c .of-sign .ensures))
 
 pub first-word-spec : {M : Type 1} → statement M
 first-word-spec =
     tie.close
     (tie.spec
+    first-row-requires
     slice-aggregate-first-of
     slice-aggregate-first-of-2
     add-first-of
     first-of-requires
-    returns)
+    returns
+    add-shown-at
+    shown-at-requires
+    pair-requires
+    add-of-sign
+    of-sign-requires
+    returns-2)

@@ -1,30 +1,28 @@
--- What must follow by its number: nothing, the window's next character, or one behind whitespace.
+-- What must follow by its number: the window's next character, or one behind whitespace.
 use native.Mathlib.Omega.{arith}
-use Rattle.tokens.proofs.KeywordLaws.{followed-any, followed-next, followed-ahead}
 use borrow.Author.Needs.{needs}
+use Rattle.tokens.proofs.KeywordLaws.{followed-next, followed-ahead}
 use Rattle.tokens.proofs.keywords.follows.Statement.{statement}
 use Rattle.tokens.proofs.keywords.follows.Tie as tie
 use Rattle.tokens.proofs.keywords.follows.Reads as reads
 use Rattle.tokens.proofs.keywords.follows.Lts as lts
+use Rattle.lexer.proofs.look.blanks.Reads as blanks-reads
+use Rattle.lexer.proofs.look.larger.Reads as larger-reads
+use Rattle.lexer.proofs.window.shown_at.Reads as shown-at-reads
 use Rattle.tokens.proofs.keywords.follower_at.Reads as follower-at-reads
 use Rattle.tokens.proofs.keywords.is_follower.Reads as is-follower-reads
-use Rattle.lexer.proofs.look.larger.Reads as larger-reads
-use Rattle.lexer.proofs.look.blanks.Reads as blanks-reads
 
-returns : tie.Need-returns
-returns c = followed-any (omega arith) (c .if1 .taken)
+add-shown-at : tie.Need-add-shown-at
+add-shown-at c = search needs
 
-mul-is-follower : tie.Need-mul-is-follower
-mul-is-follower c = search needs
-
-array-read-is-follower : tie.Need-array-read-is-follower
-array-read-is-follower c = search needs
+shown-at-requires : tie.Need-shown-at-requires
+shown-at-requires c κs = search needs
 
 is-follower-requires : tie.Need-is-follower-requires
 is-follower-requires c κs = search needs
 
-returns-2 : tie.Need-returns-2
-returns-2 c = followed-next (omega arith) (c .before .before .if1 .left) (omega arith) (omega arith) (c .is-follower .ensures)
+returns : tie.Need-returns
+returns c = followed-next (omega arith) (omega arith) (omega arith) (rw (c .before .shown-at .ensures) at (c .is-follower .ensures))
 
 add-blanks : tie.Need-add-blanks
 add-blanks c = search needs
@@ -41,21 +39,20 @@ add-larger c = search needs
 larger-requires : tie.Need-larger-requires
 larger-requires c κs = search needs
 
-returns-3 : tie.Need-returns-3
-returns-3 c = followed-ahead (omega arith) (c .before .before .before .before .if1 .left) (omega arith) (omega arith) (c .before .before .blanks .ensures) (c .before .follower-at .ensures) (c .larger .ensures)
+returns-2 : tie.Need-returns-2
+returns-2 c = followed-ahead (omega arith) (omega arith) (omega arith) (c .before .before .blanks .ensures) (c .before .follower-at .ensures) (c .larger .ensures)
 
 pub follows-spec : {M : Type 1} → statement M
 follows-spec =
     tie.close
     (tie.spec
-    returns
-    mul-is-follower
-    array-read-is-follower
+    add-shown-at
+    shown-at-requires
     is-follower-requires
-    returns-2
+    returns
     add-blanks
     blanks-requires
     follower-at-requires
     add-larger
     larger-requires
-    returns-3)
+    returns-2)

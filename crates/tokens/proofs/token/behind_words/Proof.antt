@@ -31,11 +31,9 @@ same-length c = search needs
 
 returns : tie.Need-returns
 returns c =
-    let x = c .before .before .before .before .before .before .before .before .before .args in
-    (takes-as (case-point (flagsOf (x .flags)) (isName (scopeOf (lent (x .s) (x .slots .now) (x .names .now)))) (x .t3) (x .i) (c .before .before .before .before .before .begins-with-point .ensures) (c .before .before .before .before .if1 .taken)) (c .before .before .number-at .ensures), refl)
-
-array-read-if2 : tie.Need-array-read-if2
-array-read-if2 c = search needs
+    let y = c .before .before .before .before .before .before .before .before .before in
+    let x = y .args in
+    (takes-as (case-point (flagsOf (x .flags)) (isName (scopeOf (lent (x .s) (x .slots .now) (x .names .now)))) (x .rest .now) (x .i) (y .pre .2) (c .before .before .before .before .before .begins-with-point .ensures) (c .before .before .before .before .if1 .taken)) (c .before .before .number-at .ensures), refl)
 
 string-at-requires : tie.Need-string-at-requires
 string-at-requires c κs = let k = c .before .before .before .before .before .before .before in let l = quote-there _ _ (k .pre .2) (eq-eqb 0x22 _ (c .before .if2 .taken)) in (omega arith, omega arith, omega arith)
@@ -45,8 +43,9 @@ same-length-2 c = search needs
 
 returns-2 : tie.Need-returns-2
 returns-2 c =
-    let x = c .before .before .before .before .before .before .before .before .before .before .args in
-    (takes-as (case-quote (flagsOf (x .flags)) (isName (scopeOf (lent (x .s) (x .slots .now) (x .names .now)))) (x .t3) (x .i) (c .before .before .before .before .before .before .begins-with-point .ensures) (c .before .before .before .before .before .if1 .left) (eq-eqb 0x22 _ (c .before .before .before .before .if2 .taken))) (c .before .before .string-at .ensures), refl)
+    let y = c .before .before .before .before .before .before .before .before .before .before in
+    let x = y .args in
+    (takes-as (case-quote (flagsOf (x .flags)) (isName (scopeOf (lent (x .s) (x .slots .now) (x .names .now)))) (x .rest .now) (x .i) (y .pre .2) (c .before .before .before .before .before .before .begins-with-point .ensures) (c .before .before .before .before .before .if1 .left) (eq-eqb 0x22 _ (c .before .before .before .before .if2 .taken))) (c .before .before .string-at .ensures), refl)
 
 first-symbol-requires : tie.Need-first-symbol-requires
 first-symbol-requires c κs = search needs
@@ -65,8 +64,9 @@ other-cases-requires c κs = search needs
 
 returns-3 : tie.Need-returns-3
 returns-3 c =
-    let x = c .before .before .before .before .before .before .before .before .before .before .before .args in
-    (takes-as (case-symbol (flagsOf (x .flags)) (isName (scopeOf (lent (x .s) (x .slots .now) (x .names .now)))) (x .t3) (x .i) (c .before .before .before .before .before .before .before .begins-with-point .ensures) (c .before .before .before .before .before .before .if1 .left) (ne-eqb 0x22 _ (c .before .before .before .before .before .if2 .left))) (row-taken symbols (c .before .before .before .before .first-symbol .ensures) _ (c .before .before .m .given .1) (c .of-row .ensures)), refl)
+    let y = c .before .before .before .before .before .before .before .before .before .before .before in
+    let x = y .args in
+    (takes-as (case-symbol (flagsOf (x .flags)) (isName (scopeOf (lent (x .s) (x .slots .now) (x .names .now)))) (x .rest .now) (x .i) (y .pre .2) (c .before .before .before .before .before .before .before .begins-with-point .ensures) (c .before .before .before .before .before .before .if1 .left) (ne-eqb 0x22 _ (c .before .before .before .before .before .if2 .left))) (row-taken symbols (c .before .before .before .before .first-symbol .ensures) _ (c .before .before .m .given .1) (c .of-row .ensures)), refl)
 
 same-length-3 : tie.Need-same-length-3
 same-length-3 c = search needs
@@ -76,8 +76,9 @@ same-length-4 c = search needs
 
 returns-4 : tie.Need-returns-4
 returns-4 c =
-    let x = c .before .before .before .before .before .before .before .before .before .before .before .before .before .before .before .before .before .args in
-    (takes-as (case-symbol (flagsOf (x .flags)) (isName (scopeOf (lent (x .s) (x .slots .now) (x .names .now)))) (x .t3) (x .i) (c .before .before .before .before .before .before .before .before .before .before .before .before .before .begins-with-point .ensures) (c .before .before .before .before .before .before .before .before .before .before .before .before .if1 .left) (ne-eqb 0x22 _ (c .before .before .before .before .before .before .before .before .before .before .before .if2 .left))) (row-missed symbols (c .before .before .before .before .before .before .before .before .before .before .first-symbol .ensures) (c .before .before .before .before .before .before .before .before .m2 .given .1) (c .before .before .before .before .other-cases .ensures .0)), c .before .before .before .before .other-cases .ensures .1)
+    let y = c .before .before .before .before .before .before .before .before .before .before .before .before .before .before .before .before .before in
+    let x = y .args in
+    (takes-as (case-symbol (flagsOf (x .flags)) (isName (scopeOf (lent (x .s) (x .slots .now) (x .names .now)))) (x .rest .now) (x .i) (y .pre .2) (c .before .before .before .before .before .before .before .before .before .before .before .before .before .begins-with-point .ensures) (c .before .before .before .before .before .before .before .before .before .before .before .before .if1 .left) (ne-eqb 0x22 _ (c .before .before .before .before .before .before .before .before .before .before .before .if2 .left))) (row-missed symbols (c .before .before .before .before .before .before .before .before .before .before .first-symbol .ensures) (c .before .before .before .before .before .before .before .before .m2 .given .1) (c .before .before .before .before .other-cases .ensures .0)), c .before .before .before .before .other-cases .ensures .1)
 
 pub behind-words-spec : {M : Type 1} → statement M
 behind-words-spec =
@@ -87,7 +88,6 @@ behind-words-spec =
     number-at-requires
     same-length
     returns
-    array-read-if2
     string-at-requires
     same-length-2
     returns-2

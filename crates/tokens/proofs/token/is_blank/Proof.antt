@@ -6,7 +6,11 @@ use Rattle.tokens.proofs.token.is_blank.Statement.{statement}
 use Rattle.tokens.proofs.token.is_blank.Tie as tie
 use Rattle.tokens.proofs.token.is_blank.Reads as reads
 use Rattle.tokens.proofs.token.is_blank.Lts as lts
+use Rattle.lexer.proofs.window.window.Reads as window-reads
 use Rattle.names.proofs.fixed.is.Reads as is-reads
+
+window-requires : tie.Need-window-requires
+window-requires c κs = search needs
 
 slice-aggregate-is : tie.Need-slice-aggregate-is
 slice-aggregate-is c = search needs
@@ -18,7 +22,9 @@ is-requires : tie.Need-is-requires
 is-requires c κs = search needs
 
 returns : tie.Need-returns
-returns c = c .is .ensures ∙ same-sym _ _
+returns c = c .is .ensures ∙ same-sym _ _ ∙ rw (c .before .before .before .window .ensures)
 
 pub is-blank-spec : {M : Type 1} → statement M
-is-blank-spec = tie.close (tie.spec slice-aggregate-is slice-aggregate-is-2 is-requires returns)
+is-blank-spec =
+    tie.close
+    (tie.spec window-requires slice-aggregate-is slice-aggregate-is-2 is-requires returns)

@@ -19,9 +19,6 @@ use Rattle.tokens.proofs.token.plain.Reads as plain-reads
 use Rattle.text.proofs.classes.is_digit.Reads as is-digit-reads
 use Rattle.text.proofs.classes.is_name_start_char.Reads as is-name-start-char-reads
 
-array-read-is-digit : tie.Need-array-read-is-digit
-array-read-is-digit c = search needs
-
 is-digit-requires : tie.Need-is-digit-requires
 is-digit-requires c κs = search needs
 
@@ -33,11 +30,9 @@ same-length c = search needs
 
 returns : tie.Need-returns
 returns c =
-    let x = c .before .before .before .before .before .before .before .before .before .args in
-    (takes-as (case-digit (flagsOf (x .flags)) (isName (scopeOf (lent (x .s) (x .slots .now) (x .names .now)))) (x .t3) (x .i) (c .before .before .before .before .before .is-digit .ensures) (c .before .before .before .before .if1 .taken)) (c .before .before .number-at .ensures), refl)
-
-array-read-is-name-start-char : tie.Need-array-read-is-name-start-char
-array-read-is-name-start-char c = search needs
+    let y = c .before .before .before .before .before .before .before .before .before in
+    let x = y .args in
+    (takes-as (case-digit (flagsOf (x .flags)) (isName (scopeOf (lent (x .s) (x .slots .now) (x .names .now)))) (x .rest .now) (x .i) (y .pre .2) (c .before .before .before .before .before .is-digit .ensures) (c .before .before .before .before .if1 .taken)) (c .before .before .number-at .ensures), refl)
 
 is-name-start-char-requires : tie.Need-is-name-start-char-requires
 is-name-start-char-requires c κs = search needs
@@ -56,8 +51,9 @@ same-length-3 c = search needs
 
 returns-2 : tie.Need-returns-2
 returns-2 c =
-    let x = c .before .before .before .before .before .before .before .before .before .before .before .before .before .before .before .before .args in
-    (takes-as (case-name (flagsOf (x .flags)) (isName (scopeOf (lent (x .s) (x .slots .now) (x .names .now)))) (x .t3) (x .i) (c .before .before .before .before .before .before .before .before .before .before .before .before .is-digit .ensures) (c .before .before .before .before .before .before .before .before .before .before .before .if1 .left) (c .before .before .before .before .before .before .before .before .before .before .is-name-start-char .ensures) (c .before .before .before .before .before .before .before .before .before .if2 .taken)) (takes-later (c .before .before .before .before .before .before .read-name .ensures .0) _ (c .larger .ensures)), c .before .before .before .before .before .before .read-name .ensures .1)
+    let y = c .before .before .before .before .before .before .before .before .before .before .before .before .before .before .before .before in
+    let x = y .args in
+    (takes-as (case-name (flagsOf (x .flags)) (isName (scopeOf (lent (x .s) (x .slots .now) (x .names .now)))) (x .rest .now) (x .i) (y .pre .2) (c .before .before .before .before .before .before .before .before .before .before .before .before .is-digit .ensures) (c .before .before .before .before .before .before .before .before .before .before .before .if1 .left) (c .before .before .before .before .before .before .before .before .before .before .is-name-start-char .ensures) (c .before .before .before .before .before .before .before .before .before .if2 .taken)) (takes-later (c .before .before .before .before .before .before .read-name .ensures .0) _ (c .larger .ensures)), c .before .before .before .before .before .before .read-name .ensures .1)
 
 is-blank-requires : tie.Need-is-blank-requires
 is-blank-requires c κs = search needs
@@ -67,27 +63,27 @@ plain-requires c κs = search needs
 
 returns-3 : tie.Need-returns-3
 returns-3 c =
-    let x = c .before .before .before .before .before .before .before .before .before .before .args in
-    (takes-as (case-end (flagsOf (x .flags)) (isName (scopeOf (lent (x .s) (x .slots .now) (x .names .now)))) (x .t3) (x .i) (c .before .before .before .before .before .before .is-digit .ensures) (c .before .before .before .before .before .if1 .left) (c .before .before .before .before .is-name-start-char .ensures) (c .before .before .before .if2 .left) (c .before .before .is-blank .ensures) (c .before .if3 .taken)) (takes-done _ _ _ (c .plain .ensures _)), refl)
+    let y = c .before .before .before .before .before .before .before .before .before .before in
+    let x = y .args in
+    (takes-as (case-end (flagsOf (x .flags)) (isName (scopeOf (lent (x .s) (x .slots .now) (x .names .now)))) (x .rest .now) (x .i) (y .pre .2) (c .before .before .before .before .before .before .is-digit .ensures) (c .before .before .before .before .before .if1 .left) (c .before .before .before .before .is-name-start-char .ensures) (c .before .before .before .if2 .left) (c .before .before .is-blank .ensures) (c .before .if3 .taken)) (takes-done _ _ _ (c .plain .ensures _)), refl)
 
 plain-requires-2 : tie.Need-plain-requires-2
 plain-requires-2 c κs = search needs
 
 returns-4 : tie.Need-returns-4
 returns-4 c =
-    let x = c .before .before .before .before .before .before .before .before .before .before .args in
-    (takes-as (case-nothing (flagsOf (x .flags)) (isName (scopeOf (lent (x .s) (x .slots .now) (x .names .now)))) (x .t3) (x .i) (c .before .before .before .before .before .before .is-digit .ensures) (c .before .before .before .before .before .if1 .left) (c .before .before .before .before .is-name-start-char .ensures) (c .before .before .before .if2 .left) (c .before .before .is-blank .ensures) (c .before .if3 .left)) (takes-done _ _ _ (c .plain2 .ensures _)), refl)
+    let y = c .before .before .before .before .before .before .before .before .before .before in
+    let x = y .args in
+    (takes-as (case-nothing (flagsOf (x .flags)) (isName (scopeOf (lent (x .s) (x .slots .now) (x .names .now)))) (x .rest .now) (x .i) (y .pre .2) (c .before .before .before .before .before .before .is-digit .ensures) (c .before .before .before .before .before .if1 .left) (c .before .before .before .before .is-name-start-char .ensures) (c .before .before .before .if2 .left) (c .before .before .is-blank .ensures) (c .before .if3 .left)) (takes-done _ _ _ (c .plain2 .ensures _)), refl)
 
 pub other-cases-spec : {M : Type 1} → statement M
 other-cases-spec =
     tie.close
     (tie.spec
-    array-read-is-digit
     is-digit-requires
     number-at-requires
     same-length
     returns
-    array-read-is-name-start-char
     is-name-start-char-requires
     read-name-requires
     larger-requires

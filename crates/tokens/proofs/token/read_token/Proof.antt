@@ -8,13 +8,9 @@ use Rattle.tokens.proofs.token.read_token.Lts as lts
 use Rattle.lexer.proofs.flags.Flags.clear_unary_tests.Reads as clear-unary-tests-reads
 use Rattle.lexer.proofs.skip.skip.Reads as skip-reads
 use Rattle.tokens.proofs.token.by_window.Reads as by-window-reads
-use Rattle.lexer.proofs.window.window.Reads as window-reads
 
 skip-requires : tie.Need-skip-requires
 skip-requires c κs = search needs
-
-window-requires : tie.Need-window-requires
-window-requires c κs = search needs
 
 by-window-requires : tie.Need-by-window-requires
 by-window-requires c κs = search needs
@@ -29,14 +25,13 @@ same-length-2 : tie.Need-same-length-2
 same-length-2 c = search needs
 
 returns : tie.Need-returns
-returns c = (token-taken _ _ (c .before .before .before .before .before .before .before .before .before .before .skip .ensures .0) (c .before .before .before .before .before .before .before .before .before .window .ensures) (c .before .before .before .before .before .before .by-window .ensures .0) _ (c .clear-unary-tests .ensures), c .before .before .before .before .before .before .by-window .ensures .1)
+returns c = let k = c .before .before .before .before .before .before in (token-taken _ _ (k .before .before .before .skip .ensures .0) (k .by-window .ensures .0) _ (c .clear-unary-tests .ensures), k .by-window .ensures .1)
 
 pub read-token-spec : {M : Type 1} → statement M
 read-token-spec =
     tie.close
     (tie.spec
     skip-requires
-    window-requires
     by-window-requires
     clear-unary-tests-requires
     same-length
