@@ -80,6 +80,7 @@ abbrev pub wordsOf : List Row → List (List ℕ)
 wordsOf [] = []
 wordsOf (r ∷ rs) = r .word ∷ wordsOf rs
 
+-- What the words of letters are found by: of each, its first letter counts.
 unfoldable pub initials : List (List ℕ)
 unfolding letterWords
 initials = wordsOf letterWords
