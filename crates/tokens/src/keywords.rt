@@ -10,7 +10,7 @@ ghost use Rattle.text.specs.Limits.{maxChars};
 ghost use Rattle.lexer.specs.Window as spec;
 ghost use Rattle.lexer.specs.Shown.{windowOf};
 ghost use Rattle.lexer.specs.FlagsOf.{flagsOf};
-ghost use Rattle.tokens.specs.Keywords.{classOf, followOf, whenOf, rowsOf, Lettered, areRows, areLinked, placeOf, initials, pairs, Sign, signMatch, Followed, Attempt, matchOf, Matched};
+ghost use Rattle.tokens.specs.Keywords.{classOf, followOf, whenOf, rowsOf, Lettered, areRows, areLinked, placeOf, letterWords, initials, pairs, Sign, signMatch, Followed, Attempt, matchOf, Matched};
 use lexer::flags::Flags;
 use lexer::look;
 use lexer::token_type::TokenType;
@@ -98,7 +98,7 @@ const WORD_ROWS: [[u32; 6]; 24] = [
     [2, SPACE, ALWAYS, TokenType::OR, NOTHING, 24],
 ];
 
-// The first word that begins with x, 24 where none does. The tables are not static data: who takes them copies them, so that this is asked first.
+// The first word that begins with x, 24 where none does.
 fn first_row(x: u32) -> usize
     ensures { λ r. ⌜ r ≡ placeOf initials x ⌝ }
 {
@@ -332,6 +332,14 @@ fn of_sign(kind: u32, n: usize, i: usize, reach: usize) -> Match
     Match::Found(kind, NOTHING, i + n, reach)
 }
 
+// The first word of letters that fits the window at i, where `first` is the first that begins as it does. The tables are not static data: who takes them copies them, so that this is asked only where there is one.
+fn of_letters(first: usize, rest: &[u32], i: usize, flags: Flags) -> Match
+    requires { ⌜ (length (now rest) ≤ maxChars) × (i ≤ length (now rest)) × (first ≡ placeOf initials (spec.shown (cellAt (now rest) i))) ⌝ }
+    ensures { λ m. ⌜ Matched letterWords (now (rest .entry)) (i + 12) i (windowOf 12 (now (rest .entry)) i) (flagsOf flags) m ⌝ }
+{
+    first_of(&WORDS, &WORD_ROWS, first, rest, i, flags, i + 12)
+}
+
 // The first word or symbol of two characters that fits the window at i, which has been looked at and begins with c.
 // Ruled out, among others: `and` taken for And inside a between; a reach without the look behind `list` where no `<` follows.
 pub fn first_word(rest: &[u32], i: usize, c: u32, flags: Flags) -> Match
@@ -340,7 +348,7 @@ pub fn first_word(rest: &[u32], i: usize, c: u32, flags: Flags) -> Match
 {
     let k = first_row(c);
     if k < 24 {
-        return first_of(&WORDS, &WORD_ROWS, k, rest, i, flags, i + 12);
+        return of_letters(k, rest, i, flags);
     }
     let d = window::shown_at(rest, i + 1);
     let kind = pair(c, d);

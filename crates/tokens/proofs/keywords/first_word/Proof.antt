@@ -1,42 +1,31 @@
--- The first character decides between the words of letters, which are the definition's by computation, and the symbols of two characters.
-use mathlib.Core.Path.{refl, ap, _∙_}
+-- The first character decides between the words of letters and the symbols of two characters.
+use mathlib.Core.Path.{ap, _∙_}
 use native.Mathlib.Omega.{arith}
 use Rattle.lexer.specs.FlagsOf.{flagsOf}
-use Rattle.tokens.specs.Keywords.{rowsOf, areRows, areLinked, placeOf, letterWords, initials}
-use Rattle.tokens.proofs.KeywordLaws.{same-rows, by-letters, by-pairs, sign-matched, two-shown}
+use Rattle.tokens.specs.Keywords.{placeOf, initials}
+use Rattle.tokens.proofs.KeywordLaws.{by-letters, by-pairs, sign-matched, two-shown}
 use borrow.Author.Needs.{needs}
 use Rattle.tokens.proofs.keywords.first_word.Statement.{statement}
 use Rattle.tokens.proofs.keywords.first_word.Tie as tie
 use Rattle.tokens.proofs.keywords.first_word.Reads as reads
 use Rattle.tokens.proofs.keywords.first_word.Lts as lts
 use Rattle.lexer.proofs.window.shown_at.Reads as shown-at-reads
-use Rattle.tokens.proofs.keywords.first_of.Reads as first-of-reads
 use Rattle.tokens.proofs.keywords.first_row.Reads as first-row-reads
+use Rattle.tokens.proofs.keywords.of_letters.Reads as of-letters-reads
 use Rattle.tokens.proofs.keywords.of_sign.Reads as of-sign-reads
 use Rattle.tokens.proofs.keywords.pair.Reads as pair-reads
 
 first-row-requires : tie.Need-first-row-requires
 first-row-requires c κs = search needs
 
-slice-aggregate-first-of : tie.Need-slice-aggregate-first-of
-slice-aggregate-first-of c = search needs
-
-slice-aggregate-first-of-2 : tie.Need-slice-aggregate-first-of-2
-slice-aggregate-first-of-2 c = search needs
-
-add-first-of : tie.Need-add-first-of
-add-first-of c = search needs
-
-first-of-requires : tie.Need-first-of-requires
-unfolding areRows areLinked placeOf initials
-first-of-requires c κs = let k = c .before .before .before in (refl, refl, k .first-row .ensures ∙ ap (placeOf initials) (k .before .before .pre .2), omega arith, omega arith, omega arith)
+of-letters-requires : tie.Need-of-letters-requires
+of-letters-requires c κs = let k = c .before in (omega arith, omega arith, k .first-row .ensures ∙ ap (placeOf initials) (k .before .before .pre .2))
 
 returns : tie.Need-returns
-unfolding letterWords rowsOf
 returns c =
-    let k = c .before .before .before .before in
+    let k = c .before .before in
     let z = k .before .before in
-    by-letters (z .args .rest .now) (z .args .i) (k .first-row .ensures ∙ ap (placeOf initials) (z .pre .2)) (omega arith) (same-rows {ss = letterWords} (c .first-of .ensures) refl)
+    by-letters (z .args .rest .now) (z .args .i) (k .first-row .ensures ∙ ap (placeOf initials) (z .pre .2)) (omega arith) (c .of-letters .ensures)
 
 add-shown-at : tie.Need-add-shown-at
 add-shown-at c = search needs
@@ -67,10 +56,7 @@ first-word-spec =
     tie.close
     (tie.spec
     first-row-requires
-    slice-aggregate-first-of
-    slice-aggregate-first-of-2
-    add-first-of
-    first-of-requires
+    of-letters-requires
     returns
     add-shown-at
     shown-at-requires
