@@ -8,7 +8,7 @@ use native.Mathlib.Numerals.{add-one}
 use lib.Dec.{ltb, eqb}
 use lib.ListN.{length, getD, drop, take, drop-of-length-le}
 use lib.Seq.{drop-cons, getD-take, length-take-le}
-use borrow.Author.Tests.{eq-eqb, ne-eqb, lt-ltb, le-ltb}
+use borrow.Author.Tests.{eq-eqb, ne-eqb, lt-ltb, le-ltb, le-leb}
 use Rattle.text.specs.Classes.{isScalar}
 use Rattle.names.specs.Same.{same}
 use Rattle.scope.specs.Limits.{maxName, maxDepth}
@@ -26,27 +26,33 @@ module _ (a : List ℕ) (n : ℕ) (h : n ≤ length a) where
   unfolding isBrokenName
   name-long l = rw (length-take-le n a h, lt-ltb _ _ l)
 
-  module _ (l : n ≤ maxName) (i : ℕ) (s : allScalar (take n a) ≡ allScalar (drop i (take n a))) where
-    pub name-end : n ≤ i → isBrokenName (take n a) ≡ false
-    unfolding isBrokenName allScalar
-    name-end g =
-        let x : length (take n a) ≤ i = rw (length-take-le n a h) g in
-        let y : allScalar (take n a) ≡ true = s ∙ rw (drop-of-length-le (take n a) x) in
-        rw (length-take-le n a h, le-ltb maxName n l, y)
+  pub name-scalar : n ≤ maxName → allScalar (take n a) ≡ true → isBrokenName (take n a) ≡ false
+  unfolding isBrokenName
+  name-scalar l y = rw (length-take-le n a h, le-ltb maxName n l, y)
+
+  -- The cells before i are scalar values.
+  module _ (i : ℕ) (s : allScalar (take n a) ≡ allScalar (drop i (take n a))) where
+    pub scalar-end : n ≤ i → allScalar (take n a) ≡ true
+    unfolding allScalar
+    scalar-end g = let x : length (take n a) ≤ i = rw (length-take-le n a h) g in s ∙ rw (drop-of-length-le (take n a) x)
 
     module _ (g : i < n) where
       scalar-step : allScalar (drop i (take n a)) ≡ isScalar (getD a i 0) && allScalar (drop (i + 1) (take n a))
       unfolding allScalar
       scalar-step = let x : i < length (take n a) = rw (length-take-le n a h) g in rw (add-one, drop-cons (take n a) i 0 x, getD-take n a i 0 g)
 
-      pub name-bad : isScalar (getD a i 0) ≡ false → isBrokenName (take n a) ≡ true
+      pub scalar-more : isScalar (getD a i 0) ≡ true → allScalar (take n a) ≡ allScalar (drop (i + 1) (take n a))
+      scalar-more e = s ∙ scalar-step ∙ rw e
+
+      pub name-bad : n ≤ maxName → isScalar (getD a i 0) ≡ false → isBrokenName (take n a) ≡ true
       unfolding isBrokenName
-      name-bad e =
+      name-bad l e =
           let y : allScalar (take n a) ≡ false = s ∙ scalar-step ∙ rw e in
           rw (length-take-le n a h, le-ltb maxName n l, y)
 
-      pub name-more : isScalar (getD a i 0) ≡ true → allScalar (take n a) ≡ allScalar (drop (i + 1) (take n a))
-      name-more e = s ∙ scalar-step ∙ rw e
+pub low-scalar : (c : ℕ) → c ≤ 0xD7FF → isScalar c ≡ true
+unfolding isScalar
+low-scalar c h = rw (le-leb 0 c (omega arith), le-leb c 0xD7FF h)
 
 -- The parent is looked for among the earlier entries.
 module _ (e f : Entry) (fs : List Entry) where

@@ -1,6 +1,6 @@
 // The check that every call lent a scope makes. A row is read only if it is in use.
 ghost use mathlib.Core.Path.{_≡_};
-ghost use mathlib.Core.Bool.{false, _||_, _&&_, not};
+ghost use mathlib.Core.Bool.{true, false, _||_, _&&_, not};
 ghost use mathlib.Core.List.{[], map};
 ghost use Prim.Native.Nat.{_+_, _≤_, _<_};
 ghost use Rattle.scope.specs.Limits.{maxContexts, maxEntries, maxParsed};
@@ -16,6 +16,21 @@ use crate::compare;
 use crate::scope::Scope;
 use text::classes;
 
+// Whether the first n cells lie before the surrogates, as most do: then they are scalar values.
+fn all_low(cells: &[u32], n: usize) -> bool
+    requires { ⌜ n ≤ length (now cells) ⌝ }
+    ensures { λ r. ⌜ (r ≡ true → spec.allScalar (take n (now (cells .entry))) ≡ true) ⌝ }
+{
+    let mut i: usize = 0;
+    while i < n {
+        if 0xD7FF < cells[i] {
+            return false;
+        }
+        i += 1;
+    }
+    true
+}
+
 // Whether the first n cells are no name: over 128 characters, or one of them no scalar value.
 pub fn is_broken_name(cells: &[u32], n: usize) -> bool
     requires { ⌜ n ≤ length (now cells) ⌝ }
@@ -23,6 +38,9 @@ pub fn is_broken_name(cells: &[u32], n: usize) -> bool
 {
     if Scope::MAX_NAME < n {
         return true;
+    }
+    if all_low(cells, n) {
+        return false;
     }
     let mut i: usize = 0;
     while i < n {
