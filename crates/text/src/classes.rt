@@ -195,13 +195,9 @@ pub fn is_white_space(c: u32) -> bool
     in_ranges(&WHITE_SPACES, c)
 }
 
-// Most scalar values in use lie before the surrogates.
 pub fn is_scalar(c: u32) -> bool
     ensures { λ r. ⌜ r ≡ spec.isScalar c ⌝ }
 {
-    if is_between(c, 0x0, 0xD7FF) {
-        return true;
-    }
     in_ranges(&SCALARS, c)
 }
 

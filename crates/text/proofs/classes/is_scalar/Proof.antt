@@ -1,22 +1,14 @@
--- What lies before the surrogates is a range of the class; behind it the table in code and the definition's cover each other, by computation.
+-- The table in code and the definition's cover each other, by computation.
 use mathlib.Core.Path.{refl}
-use Rattle.text.specs.Ranges.{to, rises}
+use Rattle.text.specs.Ranges.{rises}
 use Rattle.text.specs.Classes.{scalars, isScalar}
-use Rattle.text.proofs.RangeLaws.{covered, allCovered, same-class, all-in}
+use Rattle.text.proofs.RangeLaws.{covered, allCovered, same-class}
 use borrow.Author.Needs.{needs}
 use Rattle.text.proofs.classes.is_scalar.Statement.{statement}
 use Rattle.text.proofs.classes.is_scalar.Tie as tie
 use Rattle.text.proofs.classes.is_scalar.Reads as reads
 use Rattle.text.proofs.classes.is_scalar.Lts as lts
 use Rattle.text.proofs.classes.in_ranges.Reads as in-ranges-reads
-use Rattle.text.proofs.classes.is_between.Reads as is-between-reads
-
-is-between-requires : tie.Need-is-between-requires
-is-between-requires c κs = search needs
-
-returns : tie.Need-returns
-unfolding isScalar covered
-returns c = all-in (to 0x0 0xD7FF) scalars (c .before .before .args .c) (c .before .is-between .ensures) (c .if1 .taken) refl
 
 slice-aggregate-in-ranges : tie.Need-slice-aggregate-in-ranges
 slice-aggregate-in-ranges c = search needs
@@ -25,11 +17,9 @@ in-ranges-requires : tie.Need-in-ranges-requires
 unfolding rises
 in-ranges-requires c κs = refl
 
-returns-2 : tie.Need-returns-2
+returns : tie.Need-returns
 unfolding isScalar covered allCovered
-returns-2 c = same-class (c .in-ranges .ensures) scalars refl refl
+returns c = same-class (c .in-ranges .ensures) scalars refl refl
 
 pub is-scalar-spec : {M : Type 1} → statement M
-is-scalar-spec =
-    tie.close
-    (tie.spec is-between-requires returns slice-aggregate-in-ranges in-ranges-requires returns-2)
+is-scalar-spec = tie.close (tie.spec slice-aggregate-in-ranges in-ranges-requires returns)
