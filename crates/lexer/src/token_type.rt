@@ -1,4 +1,7 @@
 // The token types: their numbers are those of the grammar tables (lalr.rs).
+ghost use mathlib.Core.Path.{_≡_};
+ghost use Rattle.lexer.specs.TokenType as spec;
+
 pub struct TokenType {}
 
 impl TokenType {
@@ -127,4 +130,76 @@ impl TokenType {
     pub const ELLIPSIS: u32 = 317;
 
     pub const DOT: u32 = 318;
+}
+
+// Every token type, in the order of the definitions.
+// Ruled out, among others: a constant that is another number than the grammar's, though no code uses it.
+pub fn numbers() -> [u32; 63]
+    ensures { λ r. ⌜ r ≡ spec.all ⌝ }
+{
+    [
+        TokenType::YY_EOF,
+        TokenType::YY_ERROR,
+        TokenType::YY_UNDEF,
+        TokenType::START_EXPRESSION,
+        TokenType::START_BOXED_EXPRESSION,
+        TokenType::START_TEXTUAL_EXPRESSION,
+        TokenType::START_TEXTUAL_EXPRESSIONS,
+        TokenType::START_UNARY_TESTS,
+        TokenType::START_SIMPLE_EXPRESSION,
+        TokenType::START_SIMPLE_EXPRESSIONS,
+        TokenType::START_SIMPLE_VALUE,
+        TokenType::START_RANGE_LITERAL,
+        TokenType::AT,
+        TokenType::NOT,
+        TokenType::COLON,
+        TokenType::COMMA,
+        TokenType::EVERY,
+        TokenType::FOR,
+        TokenType::LEFT_BRACE,
+        TokenType::NULL,
+        TokenType::RIGHT_ARROW,
+        TokenType::OF,
+        TokenType::LIST,
+        TokenType::RANGE,
+        TokenType::CONTEXT,
+        TokenType::THEN,
+        TokenType::FUNCTION,
+        TokenType::EXTERNAL,
+        TokenType::IF,
+        TokenType::RIGHT_BRACE,
+        TokenType::RETURN,
+        TokenType::SOME,
+        TokenType::NUMERIC,
+        TokenType::STRING,
+        TokenType::BOOLEAN,
+        TokenType::SATISFIES,
+        TokenType::ELSE,
+        TokenType::OR,
+        TokenType::AND,
+        TokenType::EQ,
+        TokenType::NE,
+        TokenType::LT,
+        TokenType::LE,
+        TokenType::GT,
+        TokenType::GE,
+        TokenType::BETWEEN,
+        TokenType::BETWEEN_AND,
+        TokenType::IN,
+        TokenType::MINUS,
+        TokenType::PLUS,
+        TokenType::MUL,
+        TokenType::DIV,
+        TokenType::EXP,
+        TokenType::INSTANCE,
+        TokenType::NAME,
+        TokenType::NAME_DATE_TIME,
+        TokenType::BUILT_IN_TYPE_NAME,
+        TokenType::LEFT_PAREN,
+        TokenType::RIGHT_PAREN,
+        TokenType::LEFT_BRACKET,
+        TokenType::RIGHT_BRACKET,
+        TokenType::ELLIPSIS,
+        TokenType::DOT,
+    ]
 }

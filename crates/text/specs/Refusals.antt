@@ -1,4 +1,5 @@
 -- The numbers of 01's refusals.
+use mathlib.Core.List.{List, [], _∷_}
 use Prim.Native.Nat.{ℕ}
 
 -- Caused by the author's text.
@@ -41,3 +42,8 @@ beyondText = 12
 
 abbrev pub brokenRequest : ℕ
 brokenRequest = 13
+
+-- All of them.
+abbrev pub all : List ℕ
+all =
+    tooLong ∷ notUtf8 ∷ noHexDigit ∷ endAtHexDigit ∷ noScalarValue ∷ noSecondHalf ∷ endAtSecondHalf ∷ startsWithIn ∷ shortSlice ∷ brokenScope ∷ overLimit ∷ beyondText ∷ brokenRequest ∷ []

@@ -2,4 +2,5 @@
 
 pub mod classes; // classes.rt: the character classes of the grammar
 pub mod hex; // hex.rt: hexadecimal digits
+pub mod refusal; // refusal.rt: the numbers of the refusals
 pub mod utf8; // utf8.rt: bytes to characters
