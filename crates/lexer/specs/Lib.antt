@@ -1,4 +1,5 @@
 pub mod TokenType
+pub mod TokenTypes
 pub mod Flags
 pub mod Read
 pub mod Skip

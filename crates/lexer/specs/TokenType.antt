@@ -1,5 +1,4 @@
 -- The token numbers of the grammar tables (lalr.rs).
-use mathlib.Core.List.{List, [], _∷_}
 use Prim.Native.Nat.{ℕ}
 
 abbrev pub YyEof : ℕ
@@ -190,8 +189,3 @@ Ellipsis = 317
 
 abbrev pub Dot : ℕ
 Dot = 318
-
--- All of them.
-unfoldable pub all : List ℕ
-all =
-    YyEof ∷ YyError ∷ YyUndef ∷ StartExpression ∷ StartBoxedExpression ∷ StartTextualExpression ∷ StartTextualExpressions ∷ StartUnaryTests ∷ StartSimpleExpression ∷ StartSimpleExpressions ∷ StartSimpleValue ∷ StartRangeLiteral ∷ At ∷ Not ∷ Colon ∷ Comma ∷ Every ∷ For ∷ LeftBrace ∷ Null ∷ RightArrow ∷ Of ∷ List ∷ Range ∷ Context ∷ Then ∷ Function ∷ External ∷ If ∷ RightBrace ∷ Return ∷ Some ∷ Numeric ∷ String ∷ Boolean ∷ Satisfies ∷ Else ∷ Or ∷ And ∷ Eq ∷ Ne ∷ Lt ∷ Le ∷ Gt ∷ Ge ∷ Between ∷ BetweenAnd ∷ In ∷ Minus ∷ Plus ∷ Mul ∷ Div ∷ Exp ∷ Instance ∷ Name ∷ NameDateTime ∷ BuiltInTypeName ∷ LeftParen ∷ RightParen ∷ LeftBracket ∷ RightBracket ∷ Ellipsis ∷ Dot ∷ []

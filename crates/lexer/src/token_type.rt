@@ -1,6 +1,6 @@
 // The token types: their numbers are those of the grammar tables (lalr.rs).
 ghost use mathlib.Core.Path.{_≡_};
-ghost use Rattle.lexer.specs.TokenType as spec;
+ghost use Rattle.lexer.specs.TokenTypes as spec;
 
 pub struct TokenType {}
 
