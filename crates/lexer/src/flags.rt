@@ -12,6 +12,9 @@ pub struct Flags {
 }
 
 impl Flags {
+    // All five as one number.
+    pub const ALL: u32 = 31;
+
     pub fn clear_unary_tests(self) -> Flags
         ensures { λ r. ⌜ flagsOf r ≡ clear UnaryTests (flagsOf self) ⌝ }
     {

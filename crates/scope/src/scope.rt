@@ -29,6 +29,9 @@ impl Scope {
     // Depths of an entry are 0 to 7.
     pub const MAX_DEPTH: u32 = 7;
 
+    // Levels of a context, one for each depth.
+    pub const LEVELS: usize = 8;
+
     // Characters of the longest possible key: eight names, and " . " seven times.
     pub const LONGEST_KEY: usize = 1_045;
 
