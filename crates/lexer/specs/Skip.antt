@@ -1,4 +1,4 @@
--- Skipping whitespace and comments. Loops take at most fuel turns (Fuel, in proofs/: any fuel above the text's length reads the same).
+-- Skipping whitespace and comments. Loops take at most fuel turns (`any-fuel`, proofs/TokenFacts: any fuel above the text's length reads the same).
 use mathlib.Core.Bool.{Bool, cond, _&&_, not}
 use mathlib.Core.Option.{Option, none, some}
 use Prim.Native.Nat.{ℕ, zero, suc, _+_}

@@ -1,4 +1,4 @@
--- The character classes of the DMN grammar (rules 26 to 30 and 61, 62 of DMN 1.3's FEEL), Unicode's White_Space and scalar values.
+-- The character classes of the DMN grammar, Unicode's White_Space and scalar values.
 use mathlib.Core.Bool.{Bool}
 use mathlib.Core.List.{List, [], _∷_, _++_}
 use Prim.Native.Nat.{ℕ}
