@@ -1,8 +1,10 @@
 pub mod Shorter
 pub mod NameCases
+pub mod FunctionCases
 pub mod TrimLaws
 pub mod TightenLaws
 pub mod FlattenLaws
 pub mod SameLaws
+pub mod FunctionLaws
 pub mod NameLaws
 pub mod InkLaws
