@@ -6,6 +6,7 @@ ghost use lib.ListN.{length, take};
 ghost use Rattle.reading.specs.Span.{part};
 ghost use Rattle.names.specs.Flatten.{flat};
 ghost use Rattle.names.specs.Spelling.{spaced, Tightened, Bare, Left};
+use text::chars::Char;
 
 // 1 if a space, s and a space stand at i, else 0.
 fn gap(s: u32, buf: &[u32], i: usize, end: usize) -> usize
@@ -15,13 +16,13 @@ fn gap(s: u32, buf: &[u32], i: usize, end: usize) -> usize
     if end - i < 3 {
         return 0;
     }
-    if buf[i] != 0x20 {
+    if buf[i] != Char::SPACE {
         return 0;
     }
     if buf[i + 1] != s {
         return 0;
     }
-    if buf[i + 2] != 0x20 {
+    if buf[i + 2] != Char::SPACE {
         return 0;
     }
     1
@@ -74,10 +75,10 @@ pub fn flatten(buf: &mut [u32], n: usize) -> usize
     if is_flat(buf, from, end) {
         return end;
     }
-    let a = tighten(0x2E, buf, from, end);
-    let b = tighten(0x2F, buf, 0, a);
-    let c = tighten(0x2D, buf, 0, b);
-    let d = tighten(0x27, buf, 0, c);
-    let e = tighten(0x2B, buf, 0, d);
-    tighten(0x2A, buf, 0, e)
+    let a = tighten(Char::DOT, buf, from, end);
+    let b = tighten(Char::SLASH, buf, 0, a);
+    let c = tighten(Char::MINUS, buf, 0, b);
+    let d = tighten(Char::APOSTROPHE, buf, 0, c);
+    let e = tighten(Char::PLUS, buf, 0, d);
+    tighten(Char::STAR, buf, 0, e)
 }

@@ -9,6 +9,7 @@ ghost use Rattle.reading.specs.Span.{part};
 ghost use Rattle.reading.specs.Slices.{Further};
 ghost use Rattle.names.specs.Name.{isSymbolText};
 ghost use Rattle.names.specs.Spelling.{tied, laid};
+use text::chars::Char;
 
 // Copies the cells from at up to end to the place k of out; answers the place behind them.
 pub fn copy(cells: &[u32], at: usize, end: usize, out: &mut [u32], k: usize) -> usize
@@ -71,7 +72,7 @@ fn add_space(tight: bool, out: &mut [u32], k: usize) -> usize
     if tight {
         return k;
     }
-    out[k] = 0x20;
+    out[k] = Char::SPACE;
     k + 1
 }
 

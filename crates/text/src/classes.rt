@@ -4,6 +4,7 @@ ghost use mathlib.Core.Path.{_≡_};
 ghost use mathlib.Core.Bool.{true};
 ghost use Rattle.text.specs.Ranges.{to, within, Found, rises};
 ghost use Rattle.text.specs.Classes as spec;
+use crate::chars::Char;
 
 // Whether c lies in a range of the table. The first range above c ends the search, so that an ASCII character costs few comparisons.
 pub fn in_ranges(table: &[[u32; 2]], c: u32) -> bool
@@ -151,7 +152,7 @@ pub fn is_vertical_space(c: u32) -> bool
 pub fn is_whitespace(c: u32) -> bool
     ensures { λ r. ⌜ r ≡ spec.isWhitespace c ⌝ }
 {
-    if 0x20 == c {
+    if Char::SPACE == c {
         return true;
     }
     if is_between(c, 0x21, 0x84) {
@@ -170,7 +171,7 @@ pub fn is_digit(c: u32) -> bool
 pub fn is_name_start_char(c: u32) -> bool
     ensures { λ r. ⌜ r ≡ spec.isNameStart c ⌝ }
 {
-    if is_between(c, 0x61, 0x7A) {
+    if is_between(c, Char::SMALL_A, Char::SMALL_Z) {
         return true;
     }
     in_ranges(&NAME_STARTS, c)
@@ -179,7 +180,7 @@ pub fn is_name_start_char(c: u32) -> bool
 pub fn is_name_part_char(c: u32) -> bool
     ensures { λ r. ⌜ r ≡ spec.isNamePart c ⌝ }
 {
-    if is_between(c, 0x61, 0x7A) {
+    if is_between(c, Char::SMALL_A, Char::SMALL_Z) {
         return true;
     }
     in_ranges(&NAME_PARTS, c)

@@ -5,6 +5,7 @@ ghost use lib.ListN.{length, drop, getD};
 ghost use Rattle.text.specs.Ranges.{to, within};
 ghost use Rattle.text.specs.Utf8 as spec;
 ghost use Rattle.text.specs.Opening.{sequenceOf, secondLow, secondHigh, countOf, HasRoom, writtenOf, openingOf};
+use crate::refusal::Refusal;
 
 // An opened text.
 pub struct Text {
@@ -182,17 +183,17 @@ pub fn open_bytes(bytes: &[u8], out: &mut [u32]) -> Opening
         × (now (out .exit) ≡ spec.openedOutput (spec.openBytes (now (bytes .entry)) (length (now (out .entry)))) (now (out .entry))) ⌝ }
 {
     if Text::MAX_BYTES < bytes.len() {
-        return Opening::Refused(1, 0);
+        return Opening::Refused(Refusal::TOO_LONG, 0);
     }
     let counted = count_chars(bytes);
     match counted {
-        Count::BadAt(place) => Opening::Refused(2, place),
+        Count::BadAt(place) => Opening::Refused(Refusal::NOT_UTF8, place),
         Count::Chars(n) => {
             if Text::MAX_CHARS < n {
-                return Opening::Refused(1, 0);
+                return Opening::Refused(Refusal::TOO_LONG, 0);
             }
             if out.len() < n {
-                return Opening::Refused(9, 0);
+                return Opening::Refused(Refusal::SHORT_SLICE, 0);
             }
             write_chars(bytes, out);
             Opening::Opened(Text { chars: n })

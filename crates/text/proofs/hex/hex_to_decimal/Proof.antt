@@ -19,14 +19,20 @@ returns-3 c = let x = c .before .before .before .args .c in simp (le-leb 48 x (o
 sub-result : tie.Need-sub-result
 sub-result c = search needs
 
+sub-result-2 : tie.Need-sub-result-2
+sub-result-2 c = search needs
+
 returns-4 : tie.Need-returns-4
 returns-4 c = let x = c .before .before .before .before .args .c in simp (le-leb 48 x (omega arith), lt-leb x 57 (omega arith), le-leb 65 x (omega arith), le-leb x 70 (omega arith))
 
 returns-5 : tie.Need-returns-5
 returns-5 c = let x = c .before .before .before .before .before .args .c in simp (le-leb 48 x (omega arith), lt-leb x 57 (omega arith), le-leb 65 x (omega arith), lt-leb x 70 (omega arith), lt-leb 97 x (omega arith))
 
-sub-result-2 : tie.Need-sub-result-2
-sub-result-2 c = search needs
+sub-result-3 : tie.Need-sub-result-3
+sub-result-3 c = search needs
+
+sub-result-4 : tie.Need-sub-result-4
+sub-result-4 c = search needs
 
 returns-6 : tie.Need-returns-6
 returns-6 c = let x = c .before .before .before .before .before .before .args .c in simp (le-leb 48 x (omega arith), lt-leb x 57 (omega arith), le-leb 65 x (omega arith), lt-leb x 70 (omega arith), le-leb 97 x (omega arith), le-leb x 102 (omega arith))
@@ -42,8 +48,10 @@ hex-to-decimal-spec =
     returns-2
     returns-3
     sub-result
+    sub-result-2
     returns-4
     returns-5
-    sub-result-2
+    sub-result-3
+    sub-result-4
     returns-6
     returns-7)
