@@ -21,6 +21,20 @@ use Rattle.scope.proofs.HeldLaws.{held-step, held-end}
 abbrev dot : List ℕ
 dot = codes " . "
 
+-- With no level left there is no key; with one or more, those at depth d have the levels below them.
+module _ (n d : ℕ) (es : List Entry) where
+  pub levels-none : (x : List ℕ) → n ≡ 0 → member x (levels n d es) ≡ false
+  unfolding levels member
+  levels-none x z = rw z refl
+
+  pub levels-some : (n ≡ 0 → ⊥) → levels n d es ≡ level (levels (n - 1) (d + 1)) d es
+  unfolding levels
+  levels-some z = go n z
+    where
+      go : (m : ℕ) → (m ≡ 0 → ⊥) → levels m d es ≡ level (levels (m - 1) (d + 1)) d es
+      go zero z = absurd (z refl)
+      go (suc m) z = let q : suc m - 1 ≡ m = omega arith in rw q refl
+
 -- The loop over one level.
 module _ (x : List ℕ) (f : List Entry → List (List ℕ)) (d i k : ℕ) (ss ns : List (List ℕ)) (h : k ≤ length ss) (j : k ≤ length ns) where
   pub level-end : k ≤ i → member x (level f d (drop i (held k ss ns))) ≡ false
@@ -61,31 +75,18 @@ module _ (x : List ℕ) (e : Entry) (es : List Entry) where
     unfolding keysOf member
     keys-context f k = rw (sym p ∙ t, eq-eqb _ _ k) (member-qualified x (e .name) (f es))
 
-    pub keys-last : (n d : ℕ) → e .kind ≡ 1 → n ≡ 0 → member x (keysOf (levels n d) e es) ≡ false
-    unfolding levels member
-    keys-last n d k z = keys-context (levels n d) k ∙ rw z (last (leads (e .name ++ dot) x))
-      where
-        last : (a : Bool) → a && false ≡ false
-        last true = refl
-        last false = refl
-
-    pub keys-below : (n d : ℕ) → e .kind ≡ 1 → (n ≡ 0 → ⊥) → member x (keysOf (levels n d) e es) ≡ member x (level (levels (n - 1) (d + 1)) d es) || (leads (e .name ++ dot) x && member (drop (length (e .name ++ dot)) x) (level (levels (n - 1) (d + 1)) d es))
-    unfolding levels
-    keys-below zero d k z = absurd (z refl)
-    keys-below (suc n) d k z = let m : suc n - 1 ≡ n = omega arith in keys-context (levels (suc n) d) k ∙ rw m refl
-
--- A context that is not the text itself, with levels below it.
-module _ (x : List ℕ) (e : Entry) (es : List Entry) (n d : ℕ) {b : Bool} (p : b ≡ same (e .name) x) (t : b ≡ false) (k : e .kind ≡ 1) (z : n ≡ 0 → ⊥)
-    {h : Bool} (q : h ≡ member x (level (levels (n - 1) (d + 1)) d es)) where
-  pub keys-found : h ≡ true → member x (keysOf (levels n d) e es) ≡ true
-  keys-found u = keys-below x e es p t n d k z ∙ rw (sym q ∙ u)
+-- A context that is not the text itself; f has the keys of the level below.
+module _ (x : List ℕ) (e : Entry) (es : List Entry) (f : List Entry → List (List ℕ)) {b : Bool} (p : b ≡ same (e .name) x) (t : b ≡ false) (k : e .kind ≡ 1)
+    {h : Bool} (q : h ≡ member x (f es)) where
+  pub keys-found : h ≡ true → member x (keysOf f e es) ≡ true
+  keys-found u = keys-context x e es p t f k ∙ rw (sym q ∙ u)
 
   module _ (u : h ≡ false) {m : ℕ} (s : m ≡ past (e .name ++ dot) x) where
     three : length (e .name) + 3 ≡ suc (length (e .name) + 2)
     three = omega arith
 
-    pub keys-none : m ≡ 0 → member x (keysOf (levels n d) e es) ≡ false
-    keys-none v = keys-below x e es p t n d k z ∙ rw (sym q ∙ u, past-zero (length (e .name) + 2) (e .name ++ dot) x (length-append (e .name) dot ∙ three) s v)
+    pub keys-none : m ≡ 0 → member x (keysOf f e es) ≡ false
+    keys-none v = keys-context x e es p t f k ∙ rw (sym q ∙ u, past-zero (length (e .name) + 2) (e .name ++ dot) x (length-append (e .name) dot ∙ three) s v)
 
-    pub keys-path : (m ≡ 0 → ⊥) → {a : Bool} → a ≡ member (take (length x - m) (drop m x)) (level (levels (n - 1) (d + 1)) d es) → a ≡ member x (keysOf (levels n d) e es)
-    keys-path v f = let w = past-some (e .name ++ dot) x s v in f ∙ rw (lent-rest x m) (sym (keys-below x e es p t n d k z ∙ rw (sym q ∙ u, w .0, sym (w .1))))
+    pub keys-path : (m ≡ 0 → ⊥) → {a : Bool} → a ≡ member (take (length x - m) (drop m x)) (f es) → a ≡ member x (keysOf f e es)
+    keys-path v g = let w = past-some (e .name ++ dot) x s v in g ∙ rw (lent-rest x m) (sym (keys-context x e es p t f k ∙ rw (sym q ∙ u, w .0, sym (w .1))))

@@ -3,7 +3,7 @@ use Prim.Native.Nat.{ℕ, zero, suc}
 use Prim.Native.String.{String}
 use mathlib.Core.Path.{_≡_, refl}
 use mathlib.Core.Bool.{true, false}
-use mathlib.Core.List.{[], _∷_, map}
+use mathlib.Core.List.{List, [], _∷_, map}
 use Rattle.reading.specs.Codes.{codes}
 use Rattle.text.specs.Ranges.{among}
 use Rattle.text.specs.Classes.{isScalar}
@@ -46,7 +46,7 @@ pub settled-cases :
 unfolding settledFrom isRepeated same
 settled-cases = refl
 
--- Sound: nested, back to a sibling. Broken: no parent, a variable as parent, a level left out, depth 8, kind 2, a surrogate in a name.
+-- Sound: nested, back to a sibling. Broken: no parent, a variable as parent, a level left out, a variable before it, kind 2, a surrogate in a name.
 pub broken-cases :
     map isBrokenList
     ((con 0 "a" ∷ con 1 "b" ∷ var 2 "c" ∷ var 1 "d" ∷ var 0 "" ∷ [])
@@ -54,13 +54,22 @@ pub broken-cases :
     ∷ (var 0 "a" ∷ var 1 "b" ∷ [])
     ∷ (con 0 "a" ∷ var 2 "b" ∷ [])
     ∷ (con 0 "a" ∷ var 0 "b" ∷ var 1 "c" ∷ [])
-    ∷ (con 7 "a" ∷ [])
     ∷ (at 1 0 2 "a" ∷ [])
     ∷ (record { context = 1; depth = 0; kind = 0; name = 0xD800 ∷ [] } ∷ [])
     ∷ [])
-    ≡ false ∷ true ∷ true ∷ true ∷ true ∷ true ∷ true ∷ true ∷ []
+    ≡ false ∷ true ∷ true ∷ true ∷ true ∷ true ∷ true ∷ []
 unfolding anyBroken isBrokenEntry hasParent isBrokenName allScalar isScalar among
 broken-cases = refl
+
+-- A context of each depth, each below the one before: with nothing below the last it is sound, and an entry of depth 8, whose parent is a context, breaks it by its depth alone.
+abbrev chain : List Entry → List Entry
+chain es = con 0 "a" ∷ con 1 "b" ∷ con 2 "c" ∷ con 3 "d" ∷ con 4 "e" ∷ con 5 "f" ∷ con 6 "g" ∷ con 7 "h" ∷ es
+
+pub depth-cases :
+    (map isBrokenList (chain [] ∷ chain (var 8 "i" ∷ []) ∷ []) ≡ false ∷ true ∷ [])
+    × (hasParent (var 8 "i") (con 7 "h" ∷ []) ≡ true)
+unfolding anyBroken isBrokenEntry hasParent isBrokenName allScalar isScalar among
+depth-cases = (refl, refl)
 
 abbrev then : Changed → (ParsingScope → Changed) → Changed
 then (changed s) call = call s

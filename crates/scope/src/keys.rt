@@ -2,11 +2,11 @@
 ghost use mathlib.Core.Path.{_≡_};
 ghost use mathlib.Core.Bool.{false};
 ghost use mathlib.Core.List.{_++_};
-ghost use Prim.Native.Nat.{_+_, _≤_, _<_};
+ghost use Prim.Native.Nat.{_+_, _-_, _≤_, _<_};
 ghost use lib.ListN.{length, take, drop};
 ghost use Rattle.reading.specs.Codes.{codes};
 ghost use Rattle.names.specs.Same.{same, member};
-ghost use Rattle.scope.specs.Limits.{maxName};
+ghost use Rattle.scope.specs.Limits.{maxName, maxDepth};
 ghost use Rattle.scope.specs.Keys as spec;
 ghost use Rattle.scope.specs.Lent.{held, anyTooLong, isBroken, scopeOf};
 ghost use Rattle.scope.specs.Rows.{entryAt};
@@ -63,7 +63,7 @@ fn is_entry_name(
     compare::same_cells(&names[i], compare::wide(slots[i][3]), text, text.len())
 }
 
-// Whether the text is a key of the entries from `from` on at depth d, with `levels` levels below it.
+// Whether the text is a key of the entries from `from` on at depth d, where so many levels are left, that of depth d among them.
 fn has(
     slots: &[[u32; 4]],
     names: &[[u32; 128]],
@@ -73,9 +73,12 @@ fn has(
     levels: usize,
     text: &[u32],
 ) -> bool
-    requires { ⌜ (from ≤ count) × (count ≤ length (now slots)) × (count ≤ length (now names)) × (d + levels < 16) × (anyTooLong count (now slots) ≡ false) ⌝ }
-    ensures { λ r. ⌜ r ≡ member (now (text .entry)) (spec.level (spec.levels levels (d + 1)) d (drop from (held count (now (slots .entry)) (now (names .entry))))) ⌝ }
+    requires { ⌜ (from ≤ count) × (count ≤ length (now slots)) × (count ≤ length (now names)) × (d + levels ≤ maxDepth + 1) × (anyTooLong count (now slots) ≡ false) ⌝ }
+    ensures { λ r. ⌜ r ≡ member (now (text .entry)) (spec.levels levels d (drop from (held count (now (slots .entry)) (now (names .entry))))) ⌝ }
 {
+    if levels == 0 {
+        return false;
+    }
     let mut i = from;
     while i < count {
         let depth = slots[i][1];
@@ -102,16 +105,13 @@ fn entry_has(
     levels: usize,
     text: &[u32],
 ) -> bool
-    requires { ⌜ (i < count) × (count ≤ length (now slots)) × (count ≤ length (now names)) × (d + levels < 16) × (anyTooLong count (now slots) ≡ false) ⌝ }
-    ensures { λ r. ⌜ r ≡ member (now (text .entry)) (spec.keysOf (spec.levels levels (d + 1)) (entryAt (now (slots .entry)) (now (names .entry)) i) (drop (i + 1) (held count (now (slots .entry)) (now (names .entry))))) ⌝ }
+    requires { ⌜ (i < count) × (count ≤ length (now slots)) × (count ≤ length (now names)) × (0 < levels) × (d + levels ≤ maxDepth + 1) × (anyTooLong count (now slots) ≡ false) ⌝ }
+    ensures { λ r. ⌜ r ≡ member (now (text .entry)) (spec.keysOf (spec.levels (levels - 1) (d + 1)) (entryAt (now (slots .entry)) (now (names .entry)) i) (drop (i + 1) (held count (now (slots .entry)) (now (names .entry))))) ⌝ }
 {
     if is_entry_name(slots, names, count, i, text) {
         return true;
     }
     if slots[i][2] != 1 {
-        return false;
-    }
-    if levels == 0 {
         return false;
     }
     if has(slots, names, count, i + 1, d + 1, levels - 1, text) {
@@ -136,5 +136,5 @@ pub fn is_name(s: Scope, slots: &[[u32; 4]], names: &[[u32; 128]], text: &[u32])
     if broken::is_parsed(slots, names, s.parsed, 0, text, text.len()) {
         return true;
     }
-    has(slots, names, s.entries, 0, 0, 7, text)
+    has(slots, names, s.entries, 0, 0, Scope::LEVELS, text)
 }

@@ -1,5 +1,5 @@
 -- The levels left fall with each call; no entry passed has the text as a key.
-use mathlib.Core.Path.{_≡_, refl, sym, _∙_}
+use mathlib.Core.Path.{_≡_, sym, _∙_, ap}
 use Prim.Native.Nat.{_+_, _-_, _≤_}
 use lib.ListN.{drop}
 use Rattle.scope.specs.Lent.{held}
@@ -8,7 +8,7 @@ use Rattle.names.specs.Same.{member}
 use mathlib.Core.Logic.{⊎-elim}
 use Prim.Native.Nat.{_*_}
 use Rattle.scope.specs.Keys.{level, levels}
-use Rattle.scope.proofs.KeyLaws.{level-end, level-less, level-deeper, level-found, level-missed, keys-itself, keys-variable, keys-last, keys-found, keys-none, keys-path}
+use Rattle.scope.proofs.KeyLaws.{levels-none, levels-some, level-end, level-less, level-deeper, level-found, level-missed, keys-itself, keys-variable, keys-found, keys-none, keys-path}
 use Prim.Native.Nat.{ℕ, _<_}
 use borrow.Fn.Kinds.{In}
 use borrow.Fn.PlainCycle.{Measures, is, falls, and}
@@ -50,7 +50,7 @@ entry-has-is-entry-name-requires : (t : ℕ) → entry-has-lts.Need-is-entry-nam
   past-entry-reads.Asked,
   past-entry-reads.Learnt,
 ) (entry-has-at t) entry-has.Post
-entry-has-is-entry-name-requires t c κs = (omega arith, omega arith, omega arith, c .before .pre .1 .4)
+entry-has-is-entry-name-requires t c κs = (omega arith, omega arith, omega arith, c .before .pre .1 .5)
 
 entry-has-returns : (t : ℕ) → entry-has-lts.Need-returns (
   is-entry-name-reads.Asked,
@@ -102,16 +102,6 @@ entry-has-returns-2 : (t : ℕ) → entry-has-lts.Need-returns-2 (
 ) (entry-has-at t) entry-has.Post
 entry-has-returns-2 t c = sym (keys-variable _ _ _ (c .before .before .before .is-entry-name .ensures) (c .before .before .if1 .left) _ (c .if2 .taken))
 
-entry-has-returns-3 : (t : ℕ) → entry-has-lts.Need-returns-3 (
-  is-entry-name-reads.Asked,
-  is-entry-name-reads.Learnt,
-  has-below t,
-  has.Post,
-  past-entry-reads.Asked,
-  past-entry-reads.Learnt,
-) (entry-has-at t) entry-has.Post
-entry-has-returns-3 t c = sym (keys-last _ _ _ (c .before .before .before .before .is-entry-name .ensures) (c .before .before .before .if1 .left) (c .before .before .before .before .before .before .args .levels) _ (c .before .if2 .left) (c .if3 .taken))
-
 entry-has-add-has : (t : ℕ) → entry-has-lts.Need-add-has (
   is-entry-name-reads.Asked,
   is-entry-name-reads.Learnt,
@@ -150,9 +140,9 @@ entry-has-has-requires : (t : ℕ) → entry-has-lts.Need-has-requires (
   past-entry-reads.Asked,
   past-entry-reads.Learnt,
 ) (entry-has-at t) entry-has.Post
-entry-has-has-requires t c κs = (omega arith, (omega arith, omega arith, omega arith, omega arith, c .before .before .before .before .before .before .pre .1 .4))
+entry-has-has-requires t c κs = (omega arith, (omega arith, omega arith, omega arith, omega arith, c .before .before .before .before .before .pre .1 .5))
 
-entry-has-returns-4 : (t : ℕ) → entry-has-lts.Need-returns-4 (
+entry-has-returns-3 : (t : ℕ) → entry-has-lts.Need-returns-3 (
   is-entry-name-reads.Asked,
   is-entry-name-reads.Learnt,
   has-below t,
@@ -160,7 +150,7 @@ entry-has-returns-4 : (t : ℕ) → entry-has-lts.Need-returns-4 (
   past-entry-reads.Asked,
   past-entry-reads.Learnt,
 ) (entry-has-at t) entry-has.Post
-entry-has-returns-4 t c = let a = c .before .before .before .before .before .before .before .before .args in sym (keys-found _ _ _ (a .levels) (a .d + 1) (c .before .before .before .before .before .before .is-entry-name .ensures) (c .before .before .before .before .before .if1 .left) (c .before .before .before .if2 .left) (c .before .before .if3 .left) (c .before .has .ensures) (c .if4 .taken))
+entry-has-returns-3 t c = let a = c .before .before .before .before .before .before .before .args in sym (keys-found _ _ _ (levels (a .levels - 1) (a .d + 1)) (c .before .before .before .before .before .is-entry-name .ensures) (c .before .before .before .before .if1 .left) (c .before .before .if2 .left) (c .before .has .ensures) (c .if3 .taken))
 
 entry-has-past-entry-requires : (t : ℕ) → entry-has-lts.Need-past-entry-requires (
   is-entry-name-reads.Asked,
@@ -170,9 +160,9 @@ entry-has-past-entry-requires : (t : ℕ) → entry-has-lts.Need-past-entry-requ
   past-entry-reads.Asked,
   past-entry-reads.Learnt,
 ) (entry-has-at t) entry-has.Post
-entry-has-past-entry-requires t c κs = (omega arith, omega arith, omega arith, c .before .before .before .before .before .before .before .before .pre .1 .4)
+entry-has-past-entry-requires t c κs = (omega arith, omega arith, omega arith, c .before .before .before .before .before .before .before .pre .1 .5)
 
-entry-has-returns-5 : (t : ℕ) → entry-has-lts.Need-returns-5 (
+entry-has-returns-4 : (t : ℕ) → entry-has-lts.Need-returns-4 (
   is-entry-name-reads.Asked,
   is-entry-name-reads.Learnt,
   has-below t,
@@ -180,7 +170,7 @@ entry-has-returns-5 : (t : ℕ) → entry-has-lts.Need-returns-5 (
   past-entry-reads.Asked,
   past-entry-reads.Learnt,
 ) (entry-has-at t) entry-has.Post
-entry-has-returns-5 t c = let a = c .before .before .before .before .before .before .before .before .before .before .args in sym (keys-none _ _ _ (a .levels) (a .d + 1) (c .before .before .before .before .before .before .before .before .is-entry-name .ensures) (c .before .before .before .before .before .before .before .if1 .left) (c .before .before .before .before .before .if2 .left) (c .before .before .before .before .if3 .left) (c .before .before .before .has .ensures) (c .before .before .if4 .left) (c .before .past-entry .ensures .0) (c .if5 .taken))
+entry-has-returns-4 t c = let a = c .before .before .before .before .before .before .before .before .before .args in sym (keys-none _ _ _ (levels (a .levels - 1) (a .d + 1)) (c .before .before .before .before .before .before .before .is-entry-name .ensures) (c .before .before .before .before .before .before .if1 .left) (c .before .before .before .before .if2 .left) (c .before .before .before .has .ensures) (c .before .before .if3 .left) (c .before .past-entry .ensures .0) (c .if4 .taken))
 
 entry-has-add-has-3 : (t : ℕ) → entry-has-lts.Need-add-has-3 (
   is-entry-name-reads.Asked,
@@ -260,9 +250,9 @@ entry-has-has-requires-2 : (t : ℕ) → entry-has-lts.Need-has-requires-2 (
   past-entry-reads.Asked,
   past-entry-reads.Learnt,
 ) (entry-has-at t) entry-has.Post
-entry-has-has-requires-2 t c κs = (omega arith, (omega arith, omega arith, omega arith, omega arith, c .before .before .before .before .before .before .before .before .before .before .before .pre .1 .4))
+entry-has-has-requires-2 t c κs = (omega arith, (omega arith, omega arith, omega arith, omega arith, c .before .before .before .before .before .before .before .before .before .before .pre .1 .5))
 
-entry-has-returns-6 : (t : ℕ) → entry-has-lts.Need-returns-6 (
+entry-has-returns-5 : (t : ℕ) → entry-has-lts.Need-returns-5 (
   is-entry-name-reads.Asked,
   is-entry-name-reads.Learnt,
   has-below t,
@@ -270,13 +260,23 @@ entry-has-returns-6 : (t : ℕ) → entry-has-lts.Need-returns-6 (
   past-entry-reads.Asked,
   past-entry-reads.Learnt,
 ) (entry-has-at t) entry-has.Post
-entry-has-returns-6 t c = let a = c .before .before .before .before .before .before .before .before .before .before .before .before .args in keys-path _ _ _ (a .levels) (a .d + 1) (c .before .before .before .before .before .before .before .before .before .before .is-entry-name .ensures) (c .before .before .before .before .before .before .before .before .before .if1 .left) (c .before .before .before .before .before .before .before .if2 .left) (c .before .before .before .before .before .before .if3 .left) (c .before .before .before .before .before .has .ensures) (c .before .before .before .before .if4 .left) (c .before .before .before .past-entry .ensures .0) (c .before .before .if5 .left) (c .has2 .ensures)
+entry-has-returns-5 t c = let a = c .before .before .before .before .before .before .before .before .before .before .before .args in keys-path _ _ _ (levels (a .levels - 1) (a .d + 1)) (c .before .before .before .before .before .before .before .before .before .is-entry-name .ensures) (c .before .before .before .before .before .before .before .before .if1 .left) (c .before .before .before .before .before .before .if2 .left) (c .before .before .before .before .before .has .ensures) (c .before .before .before .before .if3 .left) (c .before .before .before .past-entry .ensures .0) (c .before .before .if4 .left) (c .has2 .ensures)
 
 abbrev has-Inv-loop : has-lts.InvT-loop
-has-Inv-loop slots names count from d levels′ text i₀ i = (i ≤ count) × (member text (level (levels levels′ (d + 1)) d (drop from (held count slots names))) ≡ member text (level (levels levels′ (d + 1)) d (drop i (held count slots names))))
+has-Inv-loop slots names count from d levels′ text i₀ i = (i ≤ count) × (member text (levels levels′ d (drop from (held count slots names))) ≡ member text (level (levels (levels′ - 1) (d + 1)) d (drop i (held count slots names))))
 
 abbrev has-μ-loop : has-lts.MeasureT-loop
 has-μ-loop slots names count from d levels text i₀ i = count - i
+
+has-returns :
+    (t : ℕ) →
+    has-lts.Need-returns
+    (entry-has-below t, entry-has.Post)
+    (has-at t)
+    has.Post
+    has-Inv-loop
+    has-μ-loop
+has-returns t c = let a = c .before .before .args in sym (levels-none (a .levels) (a .d) (drop (a .from) (held (a .count) (a .slots .now) (a .names .now))) (a .text .now) (c .if1 .taken))
 
 has-loop-holds :
     (t : ℕ) →
@@ -286,7 +286,7 @@ has-loop-holds :
     has.Post
     has-Inv-loop
     has-μ-loop
-has-loop-holds t c = (omega arith, refl)
+has-loop-holds t c = let a = c .before .before .args in (omega arith, ap (member (a .text .now)) (levels-some (a .levels) (a .d) _ (c .if1 .left)))
 
 has-mul-depth :
     (t : ℕ) →
@@ -318,22 +318,6 @@ has-index-2-depth :
     has-μ-loop
 has-index-2-depth t c = omega arith
 
-has-returns :
-    (t : ℕ) →
-    has-lts.Need-returns
-    (entry-has-below t, entry-has.Post)
-    (has-at t)
-    has.Post
-    has-Inv-loop
-    has-μ-loop
-has-returns t c = let a = c .before .before .before .before .before .args in sym (c .before .before .before .loop .inv .1 ∙ level-less (a .text .now) (levels (a .levels) (a .d + 1)) (a .d) (c .before .before .before .loop .i) (a .count) (a .slots .now) (a .names .now) (omega arith) (omega arith) (omega arith) (c .if1 .taken))
-
-has-entry-has-requires : (t : ℕ) → has-lts.Need-entry-has-requires (
-  entry-has-below t,
-  entry-has.Post,
-) (has-at t) has.Post has-Inv-loop has-μ-loop
-has-entry-has-requires t c κs = (omega arith, (omega arith, omega arith, omega arith, omega arith, c .before .before .before .before .before .before .pre .1 .4))
-
 has-returns-2 :
     (t : ℕ) →
     has-lts.Need-returns-2
@@ -342,7 +326,23 @@ has-returns-2 :
     has.Post
     has-Inv-loop
     has-μ-loop
-has-returns-2 t c = let a = c .before .before .before .before .before .before .before .before .args in sym (c .before .before .before .before .before .before .loop .inv .1 ∙ level-found (a .text .now) (levels (a .levels) (a .d + 1)) (a .d) (c .before .before .before .before .before .before .loop .i) (a .count) (a .slots .now) (a .names .now) (omega arith) (omega arith) (omega arith) (c .before .before .if2 .taken) (c .before .entry-has .ensures) (c .if3 .taken))
+has-returns-2 t c = let a = c .before .before .before .before .before .before .args in sym (c .before .before .before .loop .inv .1 ∙ level-less (a .text .now) (levels (a .levels - 1) (a .d + 1)) (a .d) (c .before .before .before .loop .i) (a .count) (a .slots .now) (a .names .now) (omega arith) (omega arith) (omega arith) (c .if2 .taken))
+
+has-entry-has-requires : (t : ℕ) → has-lts.Need-entry-has-requires (
+  entry-has-below t,
+  entry-has.Post,
+) (has-at t) has.Post has-Inv-loop has-μ-loop
+has-entry-has-requires t c κs = (omega arith, (omega arith, omega arith, omega arith, omega arith, omega arith, c .before .before .before .before .before .before .before .pre .1 .4))
+
+has-returns-3 :
+    (t : ℕ) →
+    has-lts.Need-returns-3
+    (entry-has-below t, entry-has.Post)
+    (has-at t)
+    has.Post
+    has-Inv-loop
+    has-μ-loop
+has-returns-3 t c = let a = c .before .before .before .before .before .before .before .before .before .args in sym (c .before .before .before .before .before .before .loop .inv .1 ∙ level-found (a .text .now) (levels (a .levels - 1) (a .d + 1)) (a .d) (c .before .before .before .before .before .before .loop .i) (a .count) (a .slots .now) (a .names .now) (omega arith) (omega arith) (omega arith) (c .before .before .if3 .taken) (c .before .entry-has .ensures) (c .if4 .taken))
 
 has-add-i :
     (t : ℕ) →
@@ -372,17 +372,17 @@ has-loop-again :
     has.Post
     has-Inv-loop
     has-μ-loop
-has-loop-again t c = let a = c .before .before .before .before .before .before .args in (omega arith, c .before .before .before .before .loop .inv .1 ∙ ⊎-elim (λ w. level-missed (a .text .now) (levels (a .levels) (a .d + 1)) (a .d) (c .before .before .before .before .loop .i) (a .count) (a .slots .now) (a .names .now) (omega arith) (omega arith) (omega arith) (w .0 .taken) (w .1 .ensures) (w .2 .left)) (λ w. level-deeper (a .text .now) (levels (a .levels) (a .d + 1)) (a .d) (c .before .before .before .before .loop .i) (a .count) (a .slots .now) (a .names .now) (omega arith) (omega arith) (omega arith) (c .before .if1 .left) (w .left)) (c .if2 .came))
+has-loop-again t c = let a = c .before .before .before .before .before .before .before .args in (omega arith, c .before .before .before .before .loop .inv .1 ∙ ⊎-elim (λ w. level-missed (a .text .now) (levels (a .levels - 1) (a .d + 1)) (a .d) (c .before .before .before .before .loop .i) (a .count) (a .slots .now) (a .names .now) (omega arith) (omega arith) (omega arith) (w .0 .taken) (w .1 .ensures) (w .2 .left)) (λ w. level-deeper (a .text .now) (levels (a .levels - 1) (a .d + 1)) (a .d) (c .before .before .before .before .loop .i) (a .count) (a .slots .now) (a .names .now) (omega arith) (omega arith) (omega arith) (c .before .if2 .left) (w .left)) (c .if3 .came))
 
-has-returns-3 :
+has-returns-4 :
     (t : ℕ) →
-    has-lts.Need-returns-3
+    has-lts.Need-returns-4
     (entry-has-below t, entry-has.Post)
     (has-at t)
     has.Post
     has-Inv-loop
     has-μ-loop
-has-returns-3 t c = let a = c .before .before .before .args in sym (c .before .loop .inv .1 ∙ level-end (a .text .now) (levels (a .levels) (a .d + 1)) (a .d) (c .before .loop .i) (a .count) (a .slots .now) (a .names .now) (omega arith) (omega arith) (omega arith))
+has-returns-4 t c = let a = c .before .before .before .before .args in sym (c .before .loop .inv .1 ∙ level-end (a .text .now) (levels (a .levels - 1) (a .d + 1)) (a .d) (c .before .loop .i) (a .count) (a .slots .now) (a .names .now) (omega arith) (omega arith) (omega arith))
 
 pub +entry-has+has-spec : {M : Type 1} → statement M
 +entry-has+has-spec = close μ-entry-has μ-has (λ t. entry-has-lts.spec (
@@ -401,14 +401,13 @@ pub +entry-has+has-spec : {M : Type 1} → statement M
     (entry-has-index-1-if2 t)
     (entry-has-index-2-if2 t)
     (entry-has-returns-2 t)
-    (entry-has-returns-3 t)
     (entry-has-add-has t)
     (entry-has-add-has-2 t)
     (entry-has-sub-has t)
     (entry-has-has-requires t)
-    (entry-has-returns-4 t)
+    (entry-has-returns-3 t)
     (entry-has-past-entry-requires t)
-    (entry-has-returns-5 t)
+    (entry-has-returns-4 t)
     (entry-has-add-has-3 t)
     (entry-has-add-has-4 t)
     (entry-has-sub-has-2 t)
@@ -417,21 +416,22 @@ pub +entry-has+has-spec : {M : Type 1} → statement M
     (entry-has-part-has-start t)
     (entry-has-part-has-end t)
     (entry-has-has-requires-2 t)
-    (entry-has-returns-6 t))
+    (entry-has-returns-5 t))
     λ t. has-lts.spec
     (entry-has-below t, entry-has.Post)
     (has-at t)
     has.Post
     has-Inv-loop
     has-μ-loop
+    (has-returns t)
     (has-loop-holds t)
     (has-mul-depth t)
     (has-index-1-depth t)
     (has-index-2-depth t)
-    (has-returns t)
-    (has-entry-has-requires t)
     (has-returns-2 t)
+    (has-entry-has-requires t)
+    (has-returns-3 t)
     (has-add-i t)
     (has-loop-less t)
     (has-loop-again t)
-    (has-returns-3 t)
+    (has-returns-4 t)

@@ -1,10 +1,9 @@
--- No name is longer than the longest key; then the parsed names, and the keys from depth 0 with seven levels below.
+-- No name is longer than the longest key; then the parsed names, and the keys of all eight levels from depth 0 on.
 use mathlib.Core.Path.{_∙_}
 use native.Mathlib.Omega.{arith}
 use Rattle.scope.specs.Answers.{lent}
 use Rattle.scope.proofs.ParsedLaws.{short-parsed}
 use lib.Seq.{take-length}
-use Rattle.scope.specs.Keys.{levels}
 use Rattle.scope.proofs.SoundLaws.{sound}
 use Rattle.scope.proofs.LongestLaws.{name-too-long, name-parsed, name-key}
 use Rattle.scope.proofs.keys.is_name.Statement.{statement}
@@ -27,7 +26,6 @@ has-requires : tie.Need-has-requires
 has-requires c κs = let a = c .before .before .before .before .args in let s = sound (lent (a .s) (a .slots .now) (a .names .now)) (c .before .before .before .before .pre) in let w = s .limits in (omega arith, omega arith, omega arith, omega arith, s .short-entries)
 
 returns-3 : tie.Need-returns-3
-unfolding levels
 returns-3 c = let a = c .before .before .before .before .before .args in name-key (lent (a .s) (a .slots .now) (a .names .now)) (a .text .now) (c .before .before .is-parsed .ensures ∙ rw (take-length (a .text .now))) (c .before .if2 .left) (c .has .ensures)
 
 pub is-name-spec : {M : Type 1} → statement M
