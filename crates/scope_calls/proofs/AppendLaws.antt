@@ -2,7 +2,7 @@
 use mathlib.Core.Path.{_≡_, refl, sym, _∙_, ap}
 use mathlib.Core.Bool.{Bool, true, false, _&&_, _||_, not}
 use mathlib.Core.List.{List, [], _∷_, _++_, map, append-nil, append-assoc}
-use Prim.Native.Nat.{ℕ, zero, suc, _+_, _-_, _<_, _≤_}
+use Prim.Native.Nat.{ℕ, zero, suc, _+_, _-_, _<_, _≤_, min}
 use native.Mathlib.Omega.{arith}
 use native.Mathlib.Nat.{add-zero}
 use native.Mathlib.Numerals.{add-one}
@@ -122,6 +122,10 @@ module _ {ss₀ ns₀ ss ns : List (List ℕ)} {from at k up cut i : ℕ} {cs : 
       let z = rw (length-append, length-append, e) at (ap length (parts h q {c = cutAfter cut (getD (getD rs i []) 0 0) b} refl)) in
       omega (arith, z, g .appended .place, map-length (raised up) (g .done))
 
+-- A number within the limit was counted to its end.
+pub few : {n l : ℕ} → n ≡ min (suc maxEntries) l → n ≤ maxEntries → n ≡ l
+few m h = omega arith
+
 -- The call.
 module _ (s : Scope) (ss ns : List (List ℕ)) (cs : List ℕ) (rs : List (List ℕ)) {b : Bool} (p : b ≡ isBroken (lent s ss ns)) (t : b ≡ false) {o : Bool} (q : o ≡ anyOutside cs rs) where
   pub push-outside : o ≡ true → refused brokenScope ≡ onScope (lent s ss ns) (pushList cs rs)
@@ -140,17 +144,17 @@ module _ (s : Scope) (ss ns : List (List ℕ)) (cs : List ℕ) (rs : List (List 
       unfolding push
       push-many h = rw (sym p ∙ t, sym q ∙ u, broken ∙ v, lt-ltb maxContexts (suc (s .contexts)) (omega arith))
 
-      module _ (h : s .contexts < maxContexts) {n : ℕ} (m : (k : ℕ) → n ≡ length (settled (listed k cs rs))) where
-        total : length (held (s .entries) ss ns ++ settled (listed (suc (s .contexts)) cs rs)) ≡ s .entries + n
+      module _ (h : s .contexts < maxContexts) {n : ℕ} (m : (k : ℕ) → n ≡ min (suc maxEntries) (length (settled (listed k cs rs)))) where
+        total : length (held (s .entries) ss ns ++ settled (listed (suc (s .contexts)) cs rs)) ≡ s .entries + length (settled (listed (suc (s .contexts)) cs rs))
         total =
             let l = sound (lent s ss ns) (sym p ∙ t) .limits in
-            length-append (held (s .entries) ss ns) _ ∙ rw (held-length (s .entries) ss ns (omega arith) (omega arith), m (suc (s .contexts)))
+            length-append (held (s .entries) ss ns) _ ∙ rw (held-length (s .entries) ss ns (omega arith) (omega arith))
 
         pub push-full : maxEntries - s .entries < n → refused overLimit ≡ onScope (lent s ss ns) (pushList cs rs)
         unfolding push
         push-full f =
             let l = sound (lent s ss ns) (sym p ∙ t) .limits in
-            rw (sym p ∙ t, sym q ∙ u, broken ∙ v, le-ltb maxContexts (suc (s .contexts)) (omega arith), total, lt-ltb maxEntries (s .entries + n) (omega arith))
+            rw (sym p ∙ t, sym q ∙ u, broken ∙ v, le-ltb maxContexts (suc (s .contexts)) (omega arith), total, lt-ltb maxEntries (s .entries + length (settled (listed (suc (s .contexts)) cs rs))) (omega (arith, m (suc (s .contexts)))))
 
         pub push-done : {ss′ ns′ : List (List ℕ)} {to : ℕ} → n ≤ maxEntries - s .entries → Appended ss ns ss′ ns′ (s .entries) to (map (raised 0) (settled (listed (s .contexts + 1) cs rs)))
             → changed (scopeOf (lent (record { contexts = s .contexts + 1; entries = to; parsed = s .parsed }) ss′ ns′)) ≡ onScope (lent s ss ns) (pushList cs rs)
@@ -160,7 +164,7 @@ module _ (s : Scope) (ss ns : List (List ℕ)) (cs : List ℕ) (rs : List (List 
             let e : s .contexts + 1 ≡ suc (s .contexts) = add-one (s .contexts) in
             let a₁ = rw (raised-none (settled (listed (s .contexts + 1) cs rs)), e) at a in
             let z : to ≤ maxEntries = omega (arith, a₁ .place, m (suc (s .contexts))) in
-            rw (sym p ∙ t, sym q ∙ u, broken ∙ v, le-ltb maxContexts (suc (s .contexts)) (omega arith), total, le-ltb maxEntries (s .entries + n) (omega arith), e, a₁ .reads, behind ss′ ss z (a₁ .slots-behind), behind ns′ ns z (a₁ .names-behind))
+            rw (sym p ∙ t, sym q ∙ u, broken ∙ v, le-ltb maxContexts (suc (s .contexts)) (omega arith), total, le-ltb maxEntries (s .entries + length (settled (listed (suc (s .contexts)) cs rs))) (omega (arith, m (suc (s .contexts)))), e, a₁ .reads, behind ss′ ss z (a₁ .slots-behind), behind ns′ ns z (a₁ .names-behind))
 
         pub push-whole : {ss′ ns′ : List (List ℕ)} {to : ℕ} → n ≤ maxEntries - s .entries → Appended ss ns ss′ ns′ (s .entries) to (map (raised 0) (settled (listed (s .contexts + 1) cs rs)))
             → isBroken (lent (record { contexts = s .contexts + 1; entries = to; parsed = s .parsed }) ss′ ns′) ≡ false

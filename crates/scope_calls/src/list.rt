@@ -2,10 +2,11 @@
 ghost use mathlib.Core.Path.{_≡_};
 ghost use mathlib.Core.Bool.{Bool, false, true, cond, _&&_, not};
 ghost use mathlib.Core.List.{List, [], _∷_, _++_, map};
-ghost use Prim.Native.Nat.{ℕ, _+_, _≤_, _<_};
+ghost use Prim.Native.Nat.{ℕ, suc, _+_, _≤_, _<_, min};
 ghost use lib.Dec.{ltb, eqb};
 ghost use lib.ListN.{length, take, drop, getD};
 ghost use Rattle.names.specs.Same.{same};
+ghost use Rattle.scope.specs.Limits.{maxEntries};
 ghost use Rattle.scope.specs.Settled.{isRepeated, settled};
 ghost use Rattle.scope.specs.Broken as spec;
 ghost use Rattle.scope.specs.Lent.{spanned, listed, anyOutside};
@@ -173,15 +174,18 @@ pub fn counted(kept: bool) -> usize
     0
 }
 
-// How many entries are left after replacing.
+// How many entries are left after replacing, counted up to the first number that no scope has room for: every larger one is refused alike.
 pub fn remaining(list: &[[u32; 4]], cells: &[u32]) -> usize
     requires { ⌜ anyOutside (now cells) (now list) ≡ false ⌝ }
-    ensures { λ r. ⌜ ((k : ℕ) → r ≡ length (settled (listed k (now (cells .entry)) (now (list .entry))))) ⌝ }
+    ensures { λ r. ⌜ ((k : ℕ) → r ≡ min (suc maxEntries) (length (settled (listed k (now (cells .entry)) (now (list .entry)))))) ⌝ }
 {
     let mut n: usize = 0;
     let mut cut: u32 = 8;
     let mut i: usize = 0;
     while i < list.len() {
+        if Scope::MAX_ENTRIES < n {
+            return n;
+        }
         let kept = stays(list, cells, i, cut);
         n += counted(kept);
         cut = cut_after(cut, list[i][0], kept);

@@ -11,6 +11,7 @@ use Rattle.scope.proofs.SoundLaws.{sound}
 use Rattle.scope.proofs.LongestLaws.{short-name}
 use Rattle.scope_calls.proofs.UnbrokenLaws.{context-list-leaves}
 use Rattle.scope_calls.proofs.StackLaws.{call-broken}
+use Rattle.scope_calls.proofs.AppendLaws.{few}
 use Rattle.scope_calls.proofs.NameCallLaws.{added-empty, added-full, added-done, added-whole, context-outside, context-name, context-broken, context-added, count-below, new-place, context-moved}
 use Rattle.scope.specs.Settled.{settled}
 use Rattle.scope_calls.proofs.DeeperLaws.{listed-in, deeper-below, broken-more}
@@ -121,7 +122,7 @@ same-length-14 : tie.Need-same-length-14
 same-length-14 c = search needs
 
 returns-7 : tie.Need-returns-7
-returns-7 c = let a = c .before .before .before .before .before .before .before .before .before .before .before .before .before .before .before .before .before .before .before .before .before .before .before .args in (context-added (a .s) (a .slots .now) (a .names .now) (c .before .before .before .before .before .before .before .before .before .before .before .before .before .before .before .before .before .before .is-broken .ensures) (c .before .before .before .before .before .before .before .before .before .before .before .before .before .before .before .before .before .if1 .left) (a .name .now) (a .cells .now) (a .rows .now) (c .before .before .before .before .before .before .before .before .before .before .before .before .before .before .before .before .any-outside .ensures) (c .before .before .before .before .before .before .before .before .before .before .before .before .before .before .before .if2 .left) (c .before .before .before .before .before .before .before .before .before .before .before .before .before .before .is-broken-name .ensures ∙ rw (take-length (a .name .now))) (c .before .before .before .before .before .before .before .before .before .before .before .before .before .if3 .left) (c .before .before .before .before .before .before .before .before .before .before .before .before .any-broken .ensures) (c .before .before .before .before .before .before .before .before .before .before .before .if4 .left) (added-full (a .s) (a .slots .now) (a .names .now) (c .before .before .before .before .before .before .before .before .before .before .before .before .before .before .before .before .before .before .is-broken .ensures) (c .before .before .before .before .before .before .before .before .before .before .before .before .before .before .before .before .before .if1 .left) (a .name .now) 1 (map deeper (listed (a .s .contexts) (a .cells .now) (a .rows .now))) (c .before .before .before .before .before .before .before .before .before .if5 .left) (deeper-below (a .s .contexts) (listed (a .s .contexts) (a .cells .now) (a .rows .now)) (listed-in (a .s .contexts) (a .cells .now) (a .rows .now))) (c .before .before .before .before .before .before .before-context .ensures .0) (c .before .before .before .before .before .before .before-context .ensures .1) (c .before .before .before .before .before .before .before-context .ensures .2) (c .before .before .before .left-beside .ensures .1) (c .before .remaining .result) (count-below (listed (a .s .contexts) (a .cells .now) (a .rows .now)) (sym (c .before .before .before .before .before .before .before .before .before .before .before .before .any-broken .ensures (a .s .contexts)) ∙ c .before .before .before .before .before .before .before .before .before .before .before .if4 .left) (c .before .remaining .ensures (a .s .contexts))) (omega arith)), refl, refl, tt)
+returns-7 c = let a = c .before .before .before .before .before .before .before .before .before .before .before .before .before .before .before .before .before .before .before .before .before .before .before .args in (context-added (a .s) (a .slots .now) (a .names .now) (c .before .before .before .before .before .before .before .before .before .before .before .before .before .before .before .before .before .before .is-broken .ensures) (c .before .before .before .before .before .before .before .before .before .before .before .before .before .before .before .before .before .if1 .left) (a .name .now) (a .cells .now) (a .rows .now) (c .before .before .before .before .before .before .before .before .before .before .before .before .before .before .before .before .any-outside .ensures) (c .before .before .before .before .before .before .before .before .before .before .before .before .before .before .before .if2 .left) (c .before .before .before .before .before .before .before .before .before .before .before .before .before .before .is-broken-name .ensures ∙ rw (take-length (a .name .now))) (c .before .before .before .before .before .before .before .before .before .before .before .before .before .if3 .left) (c .before .before .before .before .before .before .before .before .before .before .before .before .any-broken .ensures) (c .before .before .before .before .before .before .before .before .before .before .before .if4 .left) (added-full (a .s) (a .slots .now) (a .names .now) (c .before .before .before .before .before .before .before .before .before .before .before .before .before .before .before .before .before .before .is-broken .ensures) (c .before .before .before .before .before .before .before .before .before .before .before .before .before .before .before .before .before .if1 .left) (a .name .now) 1 (map deeper (listed (a .s .contexts) (a .cells .now) (a .rows .now))) (c .before .before .before .before .before .before .before .before .before .if5 .left) (deeper-below (a .s .contexts) (listed (a .s .contexts) (a .cells .now) (a .rows .now)) (listed-in (a .s .contexts) (a .cells .now) (a .rows .now))) (c .before .before .before .before .before .before .before-context .ensures .0) (c .before .before .before .before .before .before .before-context .ensures .1) (c .before .before .before .before .before .before .before-context .ensures .2) (c .before .before .before .left-beside .ensures .1) (length (settled (listed (a .s .contexts) (a .cells .now) (a .rows .now)))) (count-below (listed (a .s .contexts) (a .cells .now) (a .rows .now)) (sym (c .before .before .before .before .before .before .before .before .before .before .before .before .any-broken .ensures (a .s .contexts)) ∙ c .before .before .before .before .before .before .before .before .before .before .before .if4 .left) refl) (omega (arith, c .before .remaining .ensures (a .s .contexts)))), refl, refl, tt)
 
 cast-replace : tie.Need-cast-replace
 cast-replace c = let a = c .before .before .before .before .before .before .before .before .before .before .before .before .before .before .before .before .before .before .before .before .before .before .before .before .before .before .args in let s = sound (lent (a .s) (a .slots .now) (a .names .now)) (sym (c .before .before .before .before .before .before .before .before .before .before .before .before .before .before .before .before .before .before .before .before .before .is-broken .ensures) ∙ c .before .before .before .before .before .before .before .before .before .before .before .before .before .before .before .before .before .before .before .before .if1 .left) in let w = s .limits in omega arith
@@ -133,7 +134,7 @@ cast-append : tie.Need-cast-append
 cast-append c = let a = c .before .before .before .before .before .before .before .before .before .before .before .before .before .before .before .before .before .before .before .before .before .before .before .before .before .before .before .before .before .before .before .before .args in let s = sound (lent (a .s) (a .slots .now) (a .names .now)) (sym (c .before .before .before .before .before .before .before .before .before .before .before .before .before .before .before .before .before .before .before .before .before .before .before .before .before .before .before .is-broken .ensures) ∙ c .before .before .before .before .before .before .before .before .before .before .before .before .before .before .before .before .before .before .before .before .before .before .before .before .before .before .if1 .left) in let w = s .limits in omega arith
 
 append-requires : tie.Need-append-requires
-append-requires c κs = let a = c .before .before .before .before .before .before .before .before .before .before .before .before .before .before .before .before .before .before .before .before .before .before .before .before .before .before .before .before .before .before .before .before .args in let s = sound (lent (a .s) (a .slots .now) (a .names .now)) (sym (c .before .before .before .before .before .before .before .before .before .before .before .before .before .before .before .before .before .before .before .before .before .before .before .before .before .before .before .is-broken .ensures) ∙ c .before .before .before .before .before .before .before .before .before .before .before .before .before .before .before .before .before .before .before .before .before .before .before .before .before .before .if1 .left) in let w = s .limits in let m = c .before .before .before .before .before .replace .ensures in let z = new-place (listed (a .s .contexts) (a .cells .now) (a .rows .now)) (sym (c .before .before .before .before .before .before .before .before .before .before .before .before .before .before .before .before .before .before .before .before .before .any-broken .ensures (a .s .contexts)) ∙ c .before .before .before .before .before .before .before .before .before .before .before .before .before .before .before .before .before .before .before .before .if4 .left) (c .before .before .before .before .before .before .before .before .before .before .remaining .ensures (a .s .contexts)) (without 8 (a .name .now) (drop (c .before .before .before .before .before .before .before .before .before .before .before .before .before .before .before .before-context .result) (held (a .s .entries) (a .slots .now) (a .names .now)))) (record { context = a .s .contexts; depth = 0; kind = 1; name = a .name .now }) (c .before .before .before .before .before .before .before .before .before .before .before .before .left-beside .ensures .1) m in let n = c .before .before .before .before .before .before .before .before .before .before .remaining .ensures (a .s .contexts) in (sym (c .before .before .before .before .before .before .before .before .before .before .before .before .before .before .before .before .before .before .before .before .before .before .before .before .before .any-outside .ensures) ∙ c .before .before .before .before .before .before .before .before .before .before .before .before .before .before .before .before .before .before .before .before .before .before .before .before .if2 .left, (λ k. broken-more [] (listed k (a .cells .now) (a .rows .now)) (sym (c .before .before .before .before .before .before .before .before .before .before .before .before .before .before .before .before .before .before .before .before .before .any-broken .ensures k) ∙ c .before .before .before .before .before .before .before .before .before .before .before .before .before .before .before .before .before .before .before .before .if4 .left)), omega arith, omega (arith, z, n, m .as-many-slots), omega (arith, z, n, m .as-many-names))
+append-requires c κs = let a = c .before .before .before .before .before .before .before .before .before .before .before .before .before .before .before .before .before .before .before .before .before .before .before .before .before .before .before .before .before .before .before .before .args in let s = sound (lent (a .s) (a .slots .now) (a .names .now)) (sym (c .before .before .before .before .before .before .before .before .before .before .before .before .before .before .before .before .before .before .before .before .before .before .before .before .before .before .before .is-broken .ensures) ∙ c .before .before .before .before .before .before .before .before .before .before .before .before .before .before .before .before .before .before .before .before .before .before .before .before .before .before .if1 .left) in let w = s .limits in let m = c .before .before .before .before .before .replace .ensures in let n = few (c .before .before .before .before .before .before .before .before .before .before .remaining .ensures (a .s .contexts)) (omega arith) in let z = new-place (listed (a .s .contexts) (a .cells .now) (a .rows .now)) (sym (c .before .before .before .before .before .before .before .before .before .before .before .before .before .before .before .before .before .before .before .before .before .any-broken .ensures (a .s .contexts)) ∙ c .before .before .before .before .before .before .before .before .before .before .before .before .before .before .before .before .before .before .before .before .if4 .left) n (without 8 (a .name .now) (drop (c .before .before .before .before .before .before .before .before .before .before .before .before .before .before .before .before-context .result) (held (a .s .entries) (a .slots .now) (a .names .now)))) (record { context = a .s .contexts; depth = 0; kind = 1; name = a .name .now }) (c .before .before .before .before .before .before .before .before .before .before .before .before .left-beside .ensures .1) m in (sym (c .before .before .before .before .before .before .before .before .before .before .before .before .before .before .before .before .before .before .before .before .before .before .before .before .before .any-outside .ensures) ∙ c .before .before .before .before .before .before .before .before .before .before .before .before .before .before .before .before .before .before .before .before .before .before .before .before .if2 .left, (λ k. broken-more [] (listed k (a .cells .now) (a .rows .now)) (sym (c .before .before .before .before .before .before .before .before .before .before .before .before .before .before .before .before .before .before .before .before .before .any-broken .ensures k) ∙ c .before .before .before .before .before .before .before .before .before .before .before .before .before .before .before .before .before .before .before .before .if4 .left)), omega arith, omega (arith, z, n, m .as-many-slots), omega (arith, z, n, m .as-many-names))
 
 same-length-15 : tie.Need-same-length-15
 same-length-15 c = search needs
@@ -142,7 +143,7 @@ same-length-16 : tie.Need-same-length-16
 same-length-16 c = search needs
 
 returns-8 : tie.Need-returns-8
-returns-8 c = let a = c .before .before .before .before .before .before .before .before .before .before .before .before .before .before .before .before .before .before .before .before .before .before .before .before .before .before .before .before .before .before .before .before .before .before .before .args in let e = context-added (a .s) (a .slots .now) (a .names .now) (c .before .before .before .before .before .before .before .before .before .before .before .before .before .before .before .before .before .before .before .before .before .before .before .before .before .before .before .before .before .before .is-broken .ensures) (c .before .before .before .before .before .before .before .before .before .before .before .before .before .before .before .before .before .before .before .before .before .before .before .before .before .before .before .before .before .if1 .left) (a .name .now) (a .cells .now) (a .rows .now) (c .before .before .before .before .before .before .before .before .before .before .before .before .before .before .before .before .before .before .before .before .before .before .before .before .before .before .before .before .any-outside .ensures) (c .before .before .before .before .before .before .before .before .before .before .before .before .before .before .before .before .before .before .before .before .before .before .before .before .before .before .before .if2 .left) (c .before .before .before .before .before .before .before .before .before .before .before .before .before .before .before .before .before .before .before .before .before .before .before .before .before .before .is-broken-name .ensures ∙ rw (take-length (a .name .now))) (c .before .before .before .before .before .before .before .before .before .before .before .before .before .before .before .before .before .before .before .before .before .before .before .before .before .if3 .left) (c .before .before .before .before .before .before .before .before .before .before .before .before .before .before .before .before .before .before .before .before .before .before .before .before .any-broken .ensures) (c .before .before .before .before .before .before .before .before .before .before .before .before .before .before .before .before .before .before .before .before .before .before .before .if4 .left) (added-done (a .s) (a .slots .now) (a .names .now) (c .before .before .before .before .before .before .before .before .before .before .before .before .before .before .before .before .before .before .before .before .before .before .before .before .before .before .before .before .before .before .is-broken .ensures) (c .before .before .before .before .before .before .before .before .before .before .before .before .before .before .before .before .before .before .before .before .before .before .before .before .before .before .before .before .before .if1 .left) (a .name .now) 1 (map deeper (listed (a .s .contexts) (a .cells .now) (a .rows .now))) (c .before .before .before .before .before .before .before .before .before .before .before .before .before .before .before .before .before .before .before .before .before .if5 .left) (deeper-below (a .s .contexts) (listed (a .s .contexts) (a .cells .now) (a .rows .now)) (listed-in (a .s .contexts) (a .cells .now) (a .rows .now))) (c .before .before .before .before .before .before .before .before .before .before .before .before .before .before .before .before .before .before .before-context .ensures .0) (c .before .before .before .before .before .before .before .before .before .before .before .before .before .before .before .before .before .before .before-context .ensures .1) (c .before .before .before .before .before .before .before .before .before .before .before .before .before .before .before .before .before .before .before-context .ensures .2) (c .before .before .before .before .before .before .before .before .before .before .before .before .before .before .before .left-beside .ensures .1) (c .before .before .before .before .before .before .before .before .before .before .before .before .before .remaining .result) (count-below (listed (a .s .contexts) (a .cells .now) (a .rows .now)) (sym (c .before .before .before .before .before .before .before .before .before .before .before .before .before .before .before .before .before .before .before .before .before .before .before .before .any-broken .ensures (a .s .contexts)) ∙ c .before .before .before .before .before .before .before .before .before .before .before .before .before .before .before .before .before .before .before .before .before .before .before .if4 .left) (c .before .before .before .before .before .before .before .before .before .before .before .before .before .remaining .ensures (a .s .contexts))) (omega arith) (context-moved (listed (a .s .contexts) (a .cells .now) (a .rows .now)) (sym (c .before .before .before .before .before .before .before .before .before .before .before .before .before .before .before .before .before .before .before .before .before .before .before .before .any-broken .ensures (a .s .contexts)) ∙ c .before .before .before .before .before .before .before .before .before .before .before .before .before .before .before .before .before .before .before .before .before .before .before .if4 .left) (c .before .before .before .before .before .before .before .before .before .before .before .before .before .remaining .ensures (a .s .contexts)) (without 8 (a .name .now) (drop (c .before .before .before .before .before .before .before .before .before .before .before .before .before .before .before .before .before .before .before-context .result) (held (a .s .entries) (a .slots .now) (a .names .now)))) (record { context = a .s .contexts; depth = 0; kind = 1; name = a .name .now }) (c .before .before .before .before .before .before .before .before .before .before .before .before .before .before .before .left-beside .ensures .1) (c .before .before .before .before .before .before .before .before .replace .ensures) (c .before .before .append .ensures) (omega arith))) in (e, tt, tt, added-whole (a .s) (a .slots .now) (a .names .now) (c .before .before .before .before .before .before .before .before .before .before .before .before .before .before .before .before .before .before .before .before .before .before .before .before .before .before .before .before .before .before .is-broken .ensures) (c .before .before .before .before .before .before .before .before .before .before .before .before .before .before .before .before .before .before .before .before .before .before .before .before .before .before .before .before .before .if1 .left) (a .name .now) 1 (map deeper (listed (a .s .contexts) (a .cells .now) (a .rows .now))) (c .before .before .before .before .before .before .before .before .before .before .before .before .before .before .before .before .before .before .before .before .before .if5 .left) (deeper-below (a .s .contexts) (listed (a .s .contexts) (a .cells .now) (a .rows .now)) (listed-in (a .s .contexts) (a .cells .now) (a .rows .now))) (c .before .before .before .before .before .before .before .before .before .before .before .before .before .before .before .before .before .before .before-context .ensures .0) (c .before .before .before .before .before .before .before .before .before .before .before .before .before .before .before .before .before .before .before-context .ensures .1) (c .before .before .before .before .before .before .before .before .before .before .before .before .before .before .before .before .before .before .before-context .ensures .2) (c .before .before .before .before .before .before .before .before .before .before .before .before .before .before .before .left-beside .ensures .1) (c .before .before .before .before .before .before .before .before .before .before .before .before .before .remaining .result) (count-below (listed (a .s .contexts) (a .cells .now) (a .rows .now)) (sym (c .before .before .before .before .before .before .before .before .before .before .before .before .before .before .before .before .before .before .before .before .before .before .before .before .any-broken .ensures (a .s .contexts)) ∙ c .before .before .before .before .before .before .before .before .before .before .before .before .before .before .before .before .before .before .before .before .before .before .before .if4 .left) (c .before .before .before .before .before .before .before .before .before .before .before .before .before .remaining .ensures (a .s .contexts))) (omega arith) (context-moved (listed (a .s .contexts) (a .cells .now) (a .rows .now)) (sym (c .before .before .before .before .before .before .before .before .before .before .before .before .before .before .before .before .before .before .before .before .before .before .before .before .any-broken .ensures (a .s .contexts)) ∙ c .before .before .before .before .before .before .before .before .before .before .before .before .before .before .before .before .before .before .before .before .before .before .before .if4 .left) (c .before .before .before .before .before .before .before .before .before .before .before .before .before .remaining .ensures (a .s .contexts)) (without 8 (a .name .now) (drop (c .before .before .before .before .before .before .before .before .before .before .before .before .before .before .before .before .before .before .before-context .result) (held (a .s .entries) (a .slots .now) (a .names .now)))) (record { context = a .s .contexts; depth = 0; kind = 1; name = a .name .now }) (c .before .before .before .before .before .before .before .before .before .before .before .before .before .before .before .left-beside .ensures .1) (c .before .before .before .before .before .before .before .before .replace .ensures) (c .before .before .append .ensures) (omega arith)) (setContextList (a .name .now) (a .cells .now) (a .rows .now)) (λ w u. context-list-leaves w u (a .name .now) (a .cells .now) (a .rows .now)) e)
+returns-8 c = let a = c .before .before .before .before .before .before .before .before .before .before .before .before .before .before .before .before .before .before .before .before .before .before .before .before .before .before .before .before .before .before .before .before .before .before .before .args in let e = context-added (a .s) (a .slots .now) (a .names .now) (c .before .before .before .before .before .before .before .before .before .before .before .before .before .before .before .before .before .before .before .before .before .before .before .before .before .before .before .before .before .before .is-broken .ensures) (c .before .before .before .before .before .before .before .before .before .before .before .before .before .before .before .before .before .before .before .before .before .before .before .before .before .before .before .before .before .if1 .left) (a .name .now) (a .cells .now) (a .rows .now) (c .before .before .before .before .before .before .before .before .before .before .before .before .before .before .before .before .before .before .before .before .before .before .before .before .before .before .before .before .any-outside .ensures) (c .before .before .before .before .before .before .before .before .before .before .before .before .before .before .before .before .before .before .before .before .before .before .before .before .before .before .before .if2 .left) (c .before .before .before .before .before .before .before .before .before .before .before .before .before .before .before .before .before .before .before .before .before .before .before .before .before .before .is-broken-name .ensures ∙ rw (take-length (a .name .now))) (c .before .before .before .before .before .before .before .before .before .before .before .before .before .before .before .before .before .before .before .before .before .before .before .before .before .if3 .left) (c .before .before .before .before .before .before .before .before .before .before .before .before .before .before .before .before .before .before .before .before .before .before .before .before .any-broken .ensures) (c .before .before .before .before .before .before .before .before .before .before .before .before .before .before .before .before .before .before .before .before .before .before .before .if4 .left) (added-done (a .s) (a .slots .now) (a .names .now) (c .before .before .before .before .before .before .before .before .before .before .before .before .before .before .before .before .before .before .before .before .before .before .before .before .before .before .before .before .before .before .is-broken .ensures) (c .before .before .before .before .before .before .before .before .before .before .before .before .before .before .before .before .before .before .before .before .before .before .before .before .before .before .before .before .before .if1 .left) (a .name .now) 1 (map deeper (listed (a .s .contexts) (a .cells .now) (a .rows .now))) (c .before .before .before .before .before .before .before .before .before .before .before .before .before .before .before .before .before .before .before .before .before .if5 .left) (deeper-below (a .s .contexts) (listed (a .s .contexts) (a .cells .now) (a .rows .now)) (listed-in (a .s .contexts) (a .cells .now) (a .rows .now))) (c .before .before .before .before .before .before .before .before .before .before .before .before .before .before .before .before .before .before .before-context .ensures .0) (c .before .before .before .before .before .before .before .before .before .before .before .before .before .before .before .before .before .before .before-context .ensures .1) (c .before .before .before .before .before .before .before .before .before .before .before .before .before .before .before .before .before .before .before-context .ensures .2) (c .before .before .before .before .before .before .before .before .before .before .before .before .before .before .before .left-beside .ensures .1) (c .before .before .before .before .before .before .before .before .before .before .before .before .before .remaining .result) (count-below (listed (a .s .contexts) (a .cells .now) (a .rows .now)) (sym (c .before .before .before .before .before .before .before .before .before .before .before .before .before .before .before .before .before .before .before .before .before .before .before .before .any-broken .ensures (a .s .contexts)) ∙ c .before .before .before .before .before .before .before .before .before .before .before .before .before .before .before .before .before .before .before .before .before .before .before .if4 .left) (few (c .before .before .before .before .before .before .before .before .before .before .before .before .before .remaining .ensures (a .s .contexts)) (omega arith))) (omega arith) (context-moved (listed (a .s .contexts) (a .cells .now) (a .rows .now)) (sym (c .before .before .before .before .before .before .before .before .before .before .before .before .before .before .before .before .before .before .before .before .before .before .before .before .any-broken .ensures (a .s .contexts)) ∙ c .before .before .before .before .before .before .before .before .before .before .before .before .before .before .before .before .before .before .before .before .before .before .before .if4 .left) (few (c .before .before .before .before .before .before .before .before .before .before .before .before .before .remaining .ensures (a .s .contexts)) (omega arith)) (without 8 (a .name .now) (drop (c .before .before .before .before .before .before .before .before .before .before .before .before .before .before .before .before .before .before .before-context .result) (held (a .s .entries) (a .slots .now) (a .names .now)))) (record { context = a .s .contexts; depth = 0; kind = 1; name = a .name .now }) (c .before .before .before .before .before .before .before .before .before .before .before .before .before .before .before .left-beside .ensures .1) (c .before .before .before .before .before .before .before .before .replace .ensures) (c .before .before .append .ensures) (omega arith))) in (e, tt, tt, added-whole (a .s) (a .slots .now) (a .names .now) (c .before .before .before .before .before .before .before .before .before .before .before .before .before .before .before .before .before .before .before .before .before .before .before .before .before .before .before .before .before .before .is-broken .ensures) (c .before .before .before .before .before .before .before .before .before .before .before .before .before .before .before .before .before .before .before .before .before .before .before .before .before .before .before .before .before .if1 .left) (a .name .now) 1 (map deeper (listed (a .s .contexts) (a .cells .now) (a .rows .now))) (c .before .before .before .before .before .before .before .before .before .before .before .before .before .before .before .before .before .before .before .before .before .if5 .left) (deeper-below (a .s .contexts) (listed (a .s .contexts) (a .cells .now) (a .rows .now)) (listed-in (a .s .contexts) (a .cells .now) (a .rows .now))) (c .before .before .before .before .before .before .before .before .before .before .before .before .before .before .before .before .before .before .before-context .ensures .0) (c .before .before .before .before .before .before .before .before .before .before .before .before .before .before .before .before .before .before .before-context .ensures .1) (c .before .before .before .before .before .before .before .before .before .before .before .before .before .before .before .before .before .before .before-context .ensures .2) (c .before .before .before .before .before .before .before .before .before .before .before .before .before .before .before .left-beside .ensures .1) (c .before .before .before .before .before .before .before .before .before .before .before .before .before .remaining .result) (count-below (listed (a .s .contexts) (a .cells .now) (a .rows .now)) (sym (c .before .before .before .before .before .before .before .before .before .before .before .before .before .before .before .before .before .before .before .before .before .before .before .before .any-broken .ensures (a .s .contexts)) ∙ c .before .before .before .before .before .before .before .before .before .before .before .before .before .before .before .before .before .before .before .before .before .before .before .if4 .left) (few (c .before .before .before .before .before .before .before .before .before .before .before .before .before .remaining .ensures (a .s .contexts)) (omega arith))) (omega arith) (context-moved (listed (a .s .contexts) (a .cells .now) (a .rows .now)) (sym (c .before .before .before .before .before .before .before .before .before .before .before .before .before .before .before .before .before .before .before .before .before .before .before .before .any-broken .ensures (a .s .contexts)) ∙ c .before .before .before .before .before .before .before .before .before .before .before .before .before .before .before .before .before .before .before .before .before .before .before .if4 .left) (few (c .before .before .before .before .before .before .before .before .before .before .before .before .before .remaining .ensures (a .s .contexts)) (omega arith)) (without 8 (a .name .now) (drop (c .before .before .before .before .before .before .before .before .before .before .before .before .before .before .before .before .before .before .before-context .result) (held (a .s .entries) (a .slots .now) (a .names .now)))) (record { context = a .s .contexts; depth = 0; kind = 1; name = a .name .now }) (c .before .before .before .before .before .before .before .before .before .before .before .before .before .before .before .left-beside .ensures .1) (c .before .before .before .before .before .before .before .before .replace .ensures) (c .before .before .append .ensures) (omega arith)) (setContextList (a .name .now) (a .cells .now) (a .rows .now)) (λ w u. context-list-leaves w u (a .name .now) (a .cells .now) (a .rows .now)) e)
 
 pub set-context-spec : {M : Type 1} → statement M
 set-context-spec =
