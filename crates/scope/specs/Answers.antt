@@ -17,7 +17,8 @@ abbrev pub answerOf : Answer → List (List ℕ) → List (List ℕ) → Changed
 answerOf (Done s) ss ns = changed (scopeOf (lent s ss ns))
 answerOf (Refused n) ss ns = refused n
 
--- A refused call leaves the lent rows as they were. Of the rows that a scope does not use nothing is said behind a call that is not refused.
+-- A refused call leaves the lent rows as they were.
+-- Behind a call that is not refused these are free, and no call reads them: the cells of a name's row behind its length, the first three numbers of a parsed name's slot, and every row that no entry and no parsed name uses.
 abbrev pub Kept : Answer → List (List ℕ) → List (List ℕ) → Type 0
 Kept (Done s) rows rows′ = Unit {0}
 Kept (Refused n) rows rows′ = rows′ ≡ rows

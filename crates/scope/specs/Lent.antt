@@ -11,7 +11,8 @@ use Rattle.scope.specs.Broken.{isBrokenScope}
 use Rattle.scope.specs.Calls.{Changed, refused, push, setContext}
 
 -- Three counts; slots of an entry's context, depth, kind and name length; for each slot a row of 128 name cells.
--- Slots 0 to 511 are entries, 512 to 767 parsed names, which use the length alone. What unused slots hold is never read.
+-- Slots 0 to 511 are entries, 512 to 767 parsed names, which use the length alone.
+-- Never read are a parsed name's other three numbers, the cells behind a name's length, and the rows that are not in use.
 pub record Lent : Type 0 where
   pub contexts : ℕ
   pub entries : ℕ

@@ -3,7 +3,7 @@ ghost use mathlib.Core.Path.{_≡_};
 ghost use mathlib.Core.Bool.{true, false, _||_, _&&_, not};
 ghost use mathlib.Core.List.{[], map};
 ghost use Prim.Native.Nat.{_+_, _≤_, _<_};
-ghost use Rattle.scope.specs.Limits.{maxContexts, maxEntries, maxParsed};
+ghost use Rattle.scope.specs.Limits.{maxContexts, maxEntries, maxParsed, maxName};
 ghost use lib.Dec.{ltb, eqb};
 ghost use lib.ListN.{length, take, drop, getD};
 ghost use Rattle.names.specs.Same.{same, member};
@@ -13,6 +13,7 @@ ghost use Rattle.scope.specs.Lent.{held, anyTooLong, isBroken};
 ghost use Rattle.scope.specs.Rows.{entryAt, earlier, parsedNames};
 ghost use Rattle.scope.specs.Answers.{lent};
 use crate::compare;
+use crate::scope::Kind;
 use crate::scope::Scope;
 use text::classes;
 
@@ -59,7 +60,7 @@ fn any_too_long(slots: &[[u32; 4]], from: usize, count: usize) -> bool
 {
     let mut i: usize = 0;
     while i < count {
-        if 128 < slots[from + i][3] {
+        if (Scope::MAX_NAME as u32) < slots[from + i][3] {
             return true;
         }
         i += 1;
@@ -68,7 +69,12 @@ fn any_too_long(slots: &[[u32; 4]], from: usize, count: usize) -> bool
 }
 
 // Whether the contexts of the entries fall somewhere, or one is none of 1 to `contexts`.
-fn any_misplaced(slots: &[[u32; 4]], names: &[[u32; 128]], contexts: u32, count: usize) -> bool
+fn any_misplaced(
+    slots: &[[u32; 4]],
+    names: &[[u32; Scope::MAX_NAME]],
+    contexts: u32,
+    count: usize,
+) -> bool
     requires { ⌜ (count ≤ length (now slots)) × (count ≤ length (now names)) ⌝ }
     ensures { λ r. ⌜ r ≡ spec.anyMisplaced contexts 1 (held count (now (slots .entry)) (now (names .entry))) ⌝ }
 {
@@ -89,7 +95,7 @@ fn any_misplaced(slots: &[[u32; 4]], names: &[[u32; 128]], contexts: u32, count:
 }
 
 // Whether the entry at i stands below another entry's depth without having a parent.
-fn is_orphan(slots: &[[u32; 4]], names: &[[u32; 128]], count: usize, i: usize) -> bool
+fn is_orphan(slots: &[[u32; 4]], names: &[[u32; Scope::MAX_NAME]], count: usize, i: usize) -> bool
     requires { ⌜ (i < count) × (count ≤ length (now slots)) × (count ≤ length (now names)) ⌝ }
     ensures { λ r. ⌜ r ≡ (ltb 0 (entryAt (now (slots .entry)) (now (names .entry)) i .depth)
         && not (spec.hasParent (entryAt (now (slots .entry)) (now (names .entry)) i) (earlier i (held count (now (slots .entry)) (now (names .entry))) []))) ⌝ }
@@ -106,7 +112,7 @@ fn is_orphan(slots: &[[u32; 4]], names: &[[u32; 128]], count: usize, i: usize) -
             return true;
         }
         if row[1] == depth - 1 {
-            return row[2] != 1;
+            return row[2] != Kind::CONTEXT;
         }
         if row[1] < depth {
             return true;
@@ -117,14 +123,19 @@ fn is_orphan(slots: &[[u32; 4]], names: &[[u32; 128]], count: usize, i: usize) -
 }
 
 // Whether the entry at i is broken by itself or has no parent.
-fn is_broken_entry(slots: &[[u32; 4]], names: &[[u32; 128]], count: usize, i: usize) -> bool
+fn is_broken_entry(
+    slots: &[[u32; 4]],
+    names: &[[u32; Scope::MAX_NAME]],
+    count: usize,
+    i: usize,
+) -> bool
     requires { ⌜ (i < count) × (count ≤ length (now slots)) × (count ≤ length (now names)) × (anyTooLong count (now slots) ≡ false) ⌝ }
     ensures { λ r. ⌜ r ≡ spec.isBrokenEntry (entryAt (now (slots .entry)) (now (names .entry)) i) (earlier i (held count (now (slots .entry)) (now (names .entry))) []) ⌝ }
 {
     if Scope::MAX_DEPTH < slots[i][1] {
         return true;
     }
-    if 1 < slots[i][2] {
+    if Kind::CONTEXT < slots[i][2] {
         return true;
     }
     if is_orphan(slots, names, count, i) {
@@ -133,7 +144,7 @@ fn is_broken_entry(slots: &[[u32; 4]], names: &[[u32; 128]], count: usize, i: us
     is_broken_name(&names[i], compare::wide(slots[i][3]))
 }
 
-fn any_broken(slots: &[[u32; 4]], names: &[[u32; 128]], count: usize) -> bool
+fn any_broken(slots: &[[u32; 4]], names: &[[u32; Scope::MAX_NAME]], count: usize) -> bool
     requires { ⌜ (count ≤ length (now slots)) × (count ≤ length (now names)) × (anyTooLong count (now slots) ≡ false) ⌝ }
     ensures { λ r. ⌜ r ≡ spec.anyBroken [] (held count (now (slots .entry)) (now (names .entry))) ⌝ }
 {
@@ -159,9 +170,9 @@ fn ends_level(slots: &[[u32; 4]], i: usize, j: usize) -> bool
 }
 
 // Whether the entries at i and j have one depth and one name.
-fn is_same_entry(slots: &[[u32; 4]], names: &[[u32; 128]], i: usize, j: usize) -> bool
+fn is_same_entry(slots: &[[u32; 4]], names: &[[u32; Scope::MAX_NAME]], i: usize, j: usize) -> bool
     requires { ⌜ (i < length (now slots)) × (j < length (now slots)) × (i < length (now names)) × (j < length (now names))
-        × (getD (getD (now slots) i []) 3 0 ≤ 128) × (getD (getD (now slots) j []) 3 0 ≤ 128) ⌝ }
+        × (getD (getD (now slots) i []) 3 0 ≤ maxName) × (getD (getD (now slots) j []) 3 0 ≤ maxName) ⌝ }
     ensures { λ r. ⌜ r ≡ (eqb (entryAt (now (slots .entry)) (now (names .entry)) j .depth) (entryAt (now (slots .entry)) (now (names .entry)) i .depth)
         && same (entryAt (now (slots .entry)) (now (names .entry)) j .name) (entryAt (now (slots .entry)) (now (names .entry)) i .name)) ⌝ }
 {
@@ -177,7 +188,7 @@ fn is_same_entry(slots: &[[u32; 4]], names: &[[u32; 128]], i: usize, j: usize) -
 }
 
 // Whether the name of the entry at i stands again at its level.
-fn is_repeated(slots: &[[u32; 4]], names: &[[u32; 128]], count: usize, i: usize) -> bool
+fn is_repeated(slots: &[[u32; 4]], names: &[[u32; Scope::MAX_NAME]], count: usize, i: usize) -> bool
     requires { ⌜ (i < count) × (count ≤ length (now slots)) × (count ≤ length (now names)) × (anyTooLong count (now slots) ≡ false) ⌝ }
     ensures { λ r. ⌜ r ≡ isRepeated (entryAt (now (slots .entry)) (now (names .entry)) i) (drop (i + 1) (held count (now (slots .entry)) (now (names .entry)))) ⌝ }
 {
@@ -197,7 +208,7 @@ fn is_repeated(slots: &[[u32; 4]], names: &[[u32; 128]], count: usize, i: usize)
 // Whether the name of the entry at i stands again at its level, which it cannot if its mark is free.
 fn stands_again(
     slots: &[[u32; 4]],
-    names: &[[u32; 128]],
+    names: &[[u32; Scope::MAX_NAME]],
     count: usize,
     i: usize,
     taken: bool,
@@ -212,7 +223,7 @@ fn stands_again(
 }
 
 // Whether a name stands twice at one level: each is compared with those behind it.
-fn any_of_few(slots: &[[u32; 4]], names: &[[u32; 128]], count: usize) -> bool
+fn any_of_few(slots: &[[u32; 4]], names: &[[u32; Scope::MAX_NAME]], count: usize) -> bool
     requires { ⌜ (count ≤ length (now slots)) × (count ≤ length (now names)) × (anyTooLong count (now slots) ≡ false) ⌝ }
     ensures { λ r. ⌜ r ≡ spec.anyRepeated (held count (now (slots .entry)) (now (names .entry))) ⌝ }
 {
@@ -227,7 +238,7 @@ fn any_of_few(slots: &[[u32; 4]], names: &[[u32; 128]], count: usize) -> bool
 }
 
 // The same. From the last entry to the first, each leaves the mark of its name; only where the mark is taken are names compared.
-fn any_of_many(slots: &[[u32; 4]], names: &[[u32; 128]], count: usize) -> bool
+fn any_of_many(slots: &[[u32; 4]], names: &[[u32; Scope::MAX_NAME]], count: usize) -> bool
     requires { ⌜ (count ≤ length (now slots)) × (count ≤ length (now names)) × (anyTooLong count (now slots) ≡ false) ⌝ }
     ensures { λ r. ⌜ r ≡ spec.anyRepeated (held count (now (slots .entry)) (now (names .entry))) ⌝ }
 {
@@ -245,7 +256,7 @@ fn any_of_many(slots: &[[u32; 4]], names: &[[u32; 128]], count: usize) -> bool
 }
 
 // The same. Clearing the marks costs as much as comparing some 16 names.
-fn any_repeated(slots: &[[u32; 4]], names: &[[u32; 128]], count: usize) -> bool
+fn any_repeated(slots: &[[u32; 4]], names: &[[u32; Scope::MAX_NAME]], count: usize) -> bool
     requires { ⌜ (count ≤ length (now slots)) × (count ≤ length (now names)) × (anyTooLong count (now slots) ≡ false) ⌝ }
     ensures { λ r. ⌜ r ≡ spec.anyRepeated (held count (now (slots .entry)) (now (names .entry))) ⌝ }
 {
@@ -258,7 +269,7 @@ fn any_repeated(slots: &[[u32; 4]], names: &[[u32; 128]], count: usize) -> bool
 // Whether the first n cells are one of the parsed names from `from` on.
 pub fn is_parsed(
     slots: &[[u32; 4]],
-    names: &[[u32; 128]],
+    names: &[[u32; Scope::MAX_NAME]],
     parsed: usize,
     from: usize,
     name: &[u32],
@@ -280,7 +291,7 @@ pub fn is_parsed(
 }
 
 // Whether a parsed name is broken, or there twice.
-fn is_broken_set(slots: &[[u32; 4]], names: &[[u32; 128]], parsed: usize) -> bool
+fn is_broken_set(slots: &[[u32; 4]], names: &[[u32; Scope::MAX_NAME]], parsed: usize) -> bool
     requires { ⌜ (parsed ≤ maxParsed) × (maxEntries + parsed ≤ length (now slots)) × (maxEntries + parsed ≤ length (now names)) × (anyTooLong parsed (drop maxEntries (now slots)) ≡ false) ⌝ }
     ensures { λ r. ⌜ r ≡ spec.isBrokenSet (parsedNames parsed (now (slots .entry)) (now (names .entry))) ⌝ }
 {
@@ -320,7 +331,7 @@ fn is_over_limit(s: Scope, slots: usize, names: usize) -> bool
 
 // Whether the lent scope is broken.
 // Ruled out, among others: a name twice at one level let pass; an entry of another context taken for a parent.
-pub fn is_broken(s: Scope, slots: &[[u32; 4]], names: &[[u32; 128]]) -> bool
+pub fn is_broken(s: Scope, slots: &[[u32; 4]], names: &[[u32; Scope::MAX_NAME]]) -> bool
     ensures { λ r. ⌜ r ≡ isBroken (lent s (now (slots .entry)) (now (names .entry))) ⌝ }
 {
     if is_over_limit(s, slots.len(), names.len()) {

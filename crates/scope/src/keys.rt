@@ -14,9 +14,11 @@ ghost use Rattle.scope.specs.Rests.{past};
 ghost use Rattle.scope.specs.Answers.{lent};
 use crate::broken;
 use crate::compare;
+use crate::scope::Kind;
 use crate::scope::Scope;
+use text::chars::Char;
 
-const DOT: [u32; 3] = [0x20, 0x2E, 0x20];
+const DOT: [u32; 3] = [Char::SPACE, Char::DOT, Char::SPACE];
 
 // Where the text goes on behind the first n cells of the row and a dot, 0 if it does not begin with them.
 fn past_name(row: &[u32], n: usize, text: &[u32]) -> usize
@@ -38,7 +40,7 @@ fn past_name(row: &[u32], n: usize, text: &[u32]) -> usize
 // The same for the name of the entry at i.
 fn past_entry(
     slots: &[[u32; 4]],
-    names: &[[u32; 128]],
+    names: &[[u32; Scope::MAX_NAME]],
     count: usize,
     i: usize,
     text: &[u32],
@@ -52,7 +54,7 @@ fn past_entry(
 // Whether the text is the name of the entry at i.
 fn is_entry_name(
     slots: &[[u32; 4]],
-    names: &[[u32; 128]],
+    names: &[[u32; Scope::MAX_NAME]],
     count: usize,
     i: usize,
     text: &[u32],
@@ -66,7 +68,7 @@ fn is_entry_name(
 // Whether the text is a key of the entries from `from` on at depth d, where so many levels are left, that of depth d among them.
 fn has(
     slots: &[[u32; 4]],
-    names: &[[u32; 128]],
+    names: &[[u32; Scope::MAX_NAME]],
     count: usize,
     from: usize,
     d: u32,
@@ -98,7 +100,7 @@ fn has(
 // The same of the entry at i and those below it.
 fn entry_has(
     slots: &[[u32; 4]],
-    names: &[[u32; 128]],
+    names: &[[u32; Scope::MAX_NAME]],
     count: usize,
     i: usize,
     d: u32,
@@ -111,7 +113,7 @@ fn entry_has(
     if is_entry_name(slots, names, count, i, text) {
         return true;
     }
-    if slots[i][2] != 1 {
+    if slots[i][2] != Kind::CONTEXT {
         return false;
     }
     if has(slots, names, count, i + 1, d + 1, levels - 1, text) {
@@ -126,7 +128,7 @@ fn entry_has(
 
 // Whether the text is a parsed name or a flattened key of a scope that is not broken.
 // Ruled out, among others: a nested key without its " . "; a key that skips no level.
-pub fn is_name(s: Scope, slots: &[[u32; 4]], names: &[[u32; 128]], text: &[u32]) -> bool
+pub fn is_name(s: Scope, slots: &[[u32; 4]], names: &[[u32; Scope::MAX_NAME]], text: &[u32]) -> bool
     requires { ⌜ isBroken (lent s (now slots) (now names)) ≡ false ⌝ }
     ensures { λ r. ⌜ r ≡ spec.isName (scopeOf (lent s (now (slots .entry)) (now (names .entry)))) (now (text .entry)) ⌝ }
 {

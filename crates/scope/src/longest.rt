@@ -104,7 +104,7 @@ fn longest_parsed(slots: &[[u32; 4]], parsed: usize) -> usize
 // A length that no parsed name and no flattened key of a scope that is not broken exceeds.
 // It is the longest parsed name, or the longest names of all depths one behind the other: 0 without names, 1 where all are single characters at depth 0.
 // Ruled out, among others: the " . " between two names not counted; a parsed name longer than every key left out.
-pub fn longest_key(s: Scope, slots: &[[u32; 4]], names: &[[u32; 128]]) -> usize
+pub fn longest_key(s: Scope, slots: &[[u32; 4]], names: &[[u32; Scope::MAX_NAME]]) -> usize
     requires { ⌜ isBroken (lent s (now slots) (now names)) ≡ false ⌝ }
     ensures { λ r. ⌜ Capped (isName (scopeOf (lent s (now (slots .entry)) (now (names .entry))))) r ⌝ }
 {

@@ -1,11 +1,12 @@
 // The counts of a scope. Its entries and parsed names stand in the rows that are lent beside it.
 ghost use mathlib.Core.Path.{_≡_};
 ghost use mathlib.Core.Bool.{false};
-ghost use mathlib.Core.List.{List};
-ghost use Prim.Native.Nat.{ℕ, _+_, _≤_};
+ghost use mathlib.Core.List.{List, [], _∷_};
+ghost use Prim.Native.Nat.{ℕ, suc, _+_, _≤_};
 ghost use lib.ListN.{length};
-ghost use Rattle.scope.specs.Limits.{maxEntries, maxParsed};
-ghost use Rattle.scope.specs.Entries.{opened};
+ghost use Rattle.scope.specs.Limits.{maxContexts, maxEntries, maxParsed, maxName, maxDepth};
+ghost use Rattle.scope.specs.Entries.{opened, variable, contextKind};
+ghost use Rattle.scope.specs.Keys.{longestKey};
 ghost use Rattle.scope.specs.Lent.{scopeOf, isBroken};
 ghost use Rattle.scope.specs.Answers.{lent};
 
@@ -46,6 +47,33 @@ impl Scope {
             parsed: 0,
         }
     }
+}
+
+// What an entry is.
+pub struct Kind {}
+
+impl Kind {
+    pub const VARIABLE: u32 = 0;
+
+    pub const CONTEXT: u32 = 1;
+}
+
+// Every limit and kind, and what follows from them.
+// Ruled out, among others: a constant that is another number than 01's.
+pub fn numbers() -> [usize; 9]
+    ensures { λ r. ⌜ r ≡ (maxContexts ∷ maxEntries ∷ maxParsed ∷ maxName ∷ maxDepth ∷ suc maxDepth ∷ longestKey ∷ variable ∷ contextKind ∷ []) ⌝ }
+{
+    [
+        Scope::MAX_CONTEXTS,
+        Scope::MAX_ENTRIES,
+        Scope::MAX_PARSED,
+        Scope::MAX_NAME,
+        Scope::MAX_DEPTH as usize,
+        Scope::LEVELS,
+        Scope::LONGEST_KEY,
+        Kind::VARIABLE as usize,
+        Kind::CONTEXT as usize,
+    ]
 }
 
 // What a call answers: the scope after it, or the number of a refusal.

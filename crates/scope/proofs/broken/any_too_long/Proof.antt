@@ -21,6 +21,9 @@ abbrev μ-loop : tie.MeasureT-loop
 loop-holds : tie.Need-loop-holds Inv-loop μ-loop
 loop-holds c = (omega arith, too-long-start (c .args .slots .now) (c .args .from) (c .args .count))
 
+cast-if1 : tie.Need-cast-if1 Inv-loop μ-loop
+cast-if1 c = omega arith
+
 add-if1 : tie.Need-add-if1 Inv-loop μ-loop
 add-if1 c = omega arith
 
@@ -55,6 +58,7 @@ any-too-long-spec =
     Inv-loop
     μ-loop
     loop-holds
+    cast-if1
     add-if1
     mul-if1
     index-1-if1
