@@ -32,14 +32,8 @@ pub or-end : (a : Bool) → a || false ≡ a
 or-end true = refl
 or-end false = refl
 
--- The window's cells.
-pub window-cell : (k : ℕ) (t : List ℕ) (i j d : ℕ) → j < k → getD (windowOf k t i) j d ≡ shown (cellAt t (i + j))
-unfolding windowOf
-window-cell zero t i j d h = absurd (not-suc-le-zero h)
-window-cell (suc k) t i zero d h = rw add-zero
-window-cell (suc k) t i (suc j) d h = let e : suc i + j ≡ i + suc j = omega arith in rw (← e) (window-cell k t (suc i) j d (omega arith))
-
-pub window-length : (k : ℕ) (t : List ℕ) (i : ℕ) → length (windowOf k t i) ≡ k
+-- The window has so many cells, and is that of its front and of its rest.
+window-length : (k : ℕ) (t : List ℕ) (i : ℕ) → length (windowOf k t i) ≡ k
 unfolding windowOf
 window-length zero t i = refl
 window-length (suc k) t i = ap suc (window-length k t (suc i))
@@ -180,13 +174,18 @@ unfolding areLinked
 skipped-next ls rs h {x} {k} l b e = skipped-to ls x (drop (k + 1) ls) (k + 1) refl (omega arith) (rw (← b) (e ∙ eqb-true _ _ (below (isNext ls rs) (length ls) h k l)))
 
 -- What must follow: the window's next character, or one behind whitespace.
-module _ {t : List ℕ} {i n q follow : ℕ} (near : q ≤ length t + 12) {hit : Bool} where
-  pub followed-next : follow < 4 → n < 12 → hit ≡ classOf follow (shown (cellAt t (i + n))) → Followed t q (followOf follow) (windowOf 12 t i) n i hit q
+cell-inside : (w : List ℕ) (n a b : ℕ) → n < length w → getD w n a ≡ getD w n b
+cell-inside [] n a b h = absurd (not-suc-le-zero h)
+cell-inside (x ∷ w) zero a b h = refl
+cell-inside (x ∷ w) (suc n) a b h = cell-inside w n a b (omega arith)
+
+module _ {t w : List ℕ} {i n q follow : ℕ} (near : q ≤ length t + 12) {hit : Bool} where
+  pub followed-next : follow < 4 → n < length w → hit ≡ classOf follow (getD w n 0) → Followed t q (followOf follow) w n i hit q
   unfolding followOf
-  followed-next l h d = record { on = omega arith; near = near; goes = rw (lt-ltb follow 4 l, d, ← window-cell 12 t i n 0x20 h) (finds (begins t q (done (classOf follow (getD (windowOf 12 t i) n 0x20))))) }
+  followed-next l h d = record { on = omega arith; near = near; goes = rw (lt-ltb follow 4 l, d, cell-inside w n 0 0x20 h) (finds (begins t q (done (classOf follow (getD w n 0x20))))) }
 
   pub followed-ahead : 4 ≤ follow → length t ≤ maxChars → {j : ℕ} → Passed isWhitespace t (i + n) j → hit ≡ holds (classOf follow) (cellAt t j) → {to : ℕ} → to ≡ max q (j + 1)
-      → Followed t q (followOf follow) (windowOf 12 t i) n i hit to
+      → Followed t q (followOf follow) w n i hit to
   unfolding followOf
   followed-ahead l small {j} p d {to} m = let b = p .within in record {
     on = omega arith;
@@ -197,61 +196,61 @@ module _ {t : List ℕ} {i n q follow : ℕ} (near : q ≤ length t + 12) {hit :
 letters-length : {l r : List ℕ} → Lettered l r → length (take (getD r 0 0) l) ≡ getD r 0 0
 letters-length {l} {r} k = omega (arith, length-take (getD r 0 0) l, k .size, k .most)
 
-pub word-inside : (t : List ℕ) (i : ℕ) {l r : List ℕ} {n : ℕ} {b : Bool} → Lettered l r → i ≤ length t → n ≡ getD r 0 0 → b ≡ leads (take n l) (windowOf 12 t i) → b ≡ true → i + n ≤ length t
-word-inside t i {l} {r} {n} k inside m s d = rw m (rw (m, letters-length k) at (leads-inside (take n l) t 12 i (rw m (k .spaceless)) (sym s ∙ d) inside))
+pub word-inside : (t : List ℕ) (i : ℕ) {w l r : List ℕ} {n : ℕ} {b : Bool} → Lettered l r → w ≡ windowOf 12 t i → i ≤ length t → n ≡ getD r 0 0 → b ≡ leads (take n l) w → b ≡ true → i + n ≤ length t
+word-inside t i {w} {l} {r} {n} k win inside m s d = rw m (rw (m, letters-length k) at (leads-inside (take n l) t 12 i (rw m (k .spaceless)) (ap (leads (take n l)) (sym win) ∙ sym s ∙ d) inside))
 
 -- One row, tried: the flag or the letters do not fit, or what must follow was looked for.
-missed : (t l r : List ℕ) (f : Flags) (i q : ℕ) → q ≤ length t + 12 → taken (rowOf l r .when) f && leads (rowOf l r .word) (windowOf 12 t i) ≡ false → Attempt t q l r f (windowOf 12 t i) i false q
-missed t l r f i q near h = record {
+missed : (t w l r : List ℕ) (f : Flags) (i q : ℕ) → q ≤ length t + 12 → taken (rowOf l r .when) f && leads (rowOf l r .word) w ≡ false → Attempt t q l r f w i false q
+missed t w l r f i q near h = record {
   on = omega arith;
   near = near;
   within = λ e. absurd (false≢true e);
-  stands = λ rs o. record { same = ap (runFrom t q) (passed-over (rowOf l r) rs f (windowOf 12 t i) i o h) };
+  stands = λ rs o. record { same = ap (runFrom t q) (passed-over (rowOf l r) rs f w i o h) };
 }
 
-module _ {t l r : List ℕ} {f : Flags} {i q : ℕ} (near : q ≤ length t + 12) where
-  pub tried-untaken : {a : Bool} → a ≡ taken (whenOf (getD r 2 0)) f → a ≡ false → Attempt t q l r f (windowOf 12 t i) i false q
+module _ {t w l r : List ℕ} {f : Flags} {i q : ℕ} (near : q ≤ length t + 12) where
+  pub tried-untaken : {a : Bool} → a ≡ taken (whenOf (getD r 2 0)) f → a ≡ false → Attempt t q l r f w i false q
   unfolding rowOf
-  tried-untaken p e = missed t l r f i q near (rw (← p, e))
+  tried-untaken p e = missed t w l r f i q near (rw (← p, e))
 
-  module _ {n : ℕ} (m : n ≡ getD r 0 0) {b : Bool} (s : b ≡ leads (take n l) (windowOf 12 t i)) where
-    pub tried-apart : b ≡ false → Attempt t q l r f (windowOf 12 t i) i false q
+  module _ {n : ℕ} (m : n ≡ getD r 0 0) {b : Bool} (s : b ≡ leads (take n l) w) where
+    pub tried-apart : b ≡ false → Attempt t q l r f w i false q
     unfolding rowOf
-    tried-apart e = missed t l r f i q near (and-off (taken (whenOf (getD r 2 0)) f) (rw m at (sym s ∙ e)))
+    tried-apart e = missed t w l r f i q near (and-off (taken (whenOf (getD r 2 0)) f) (rw m at (sym s ∙ e)))
 
-    pub tried-followed : Lettered l r → i ≤ length t → {a : Bool} → a ≡ taken (whenOf (getD r 2 0)) f → a ≡ true → b ≡ true
-        → {hit : Bool} {to : ℕ} → Followed t q (followOf (getD r 1 0)) (windowOf 12 t i) n i hit to → Attempt t q l r f (windowOf 12 t i) i hit to
+    pub tried-followed : Lettered l r → w ≡ windowOf 12 t i → i ≤ length t → {a : Bool} → a ≡ taken (whenOf (getD r 2 0)) f → a ≡ true → b ≡ true
+        → {hit : Bool} {to : ℕ} → Followed t q (followOf (getD r 1 0)) w n i hit to → Attempt t q l r f w i hit to
     unfolding rowOf firstOf
-    tried-followed k inside p e d g = record {
+    tried-followed k win inside p e d g = record {
       on = g .on;
       near = g .near;
-      within = λ _. rw (letters-length k, ← m) (word-inside t i k inside m s d);
+      within = λ _. rw (letters-length k, ← m) (word-inside t i k win inside m s d);
       stands = λ rs o. rw (letters-length k, ← m, ← p, e, ← s, d) (takes-on (g .goes) _ (begins t q _));
     }
 
--- The search, begun with the reach `from`, has come to word k with the reach q.
-pub record Searching (ls rs : List (List ℕ)) (t : List ℕ) (from i : ℕ) (f : Flags) (k q : ℕ) : Type 0 where
+-- The search in the window w, begun with the reach `from`, has come to word k with the reach q.
+pub record Searching (ls rs : List (List ℕ)) (t w : List ℕ) (from i : ℕ) (f : Flags) (k q : ℕ) : Type 0 where
   pub even : length ls ≡ length rs
   pub upto : k ≤ length ls
   pub on : from ≤ q
   pub near : q ≤ length t + 12
   pub begins : k < length ls → getD (getD ls k []) 0 0 ≡ shown (cellAt t i)
-  pub stands : (o : Look Outcome) → Stands t from (firstOf fuel (rowsOf ls rs) f (windowOf 12 t i) i o) (firstOf fuel (rowsOf (drop k ls) (drop k rs)) f (windowOf 12 t i) i o) q
+  pub stands : (o : Look Outcome) → Stands t from (firstOf fuel (rowsOf ls rs) f w i o) (firstOf fuel (rowsOf (drop k ls) (drop k rs)) f w i o) q
 
-skipping : (ls rs : List (List ℕ)) (t : List ℕ) (f : Flags) (i : ℕ) (o : Look Outcome) {from k : ℕ} → areRows ls rs ≡ true → Skipped ls (shown (cellAt t i)) from k
-    → firstOf fuel (rowsOf (drop from ls) (drop from rs)) f (windowOf 12 t i) i o ≡ firstOf fuel (rowsOf (drop k ls) (drop k rs)) f (windowOf 12 t i) i o
+skipping : (ls rs : List (List ℕ)) (t : List ℕ) {w : List ℕ} (f : Flags) (i : ℕ) (o : Look Outcome) {from k : ℕ} → w ≡ windowOf 12 t i → areRows ls rs ≡ true → Skipped ls (shown (cellAt t i)) from k
+    → firstOf fuel (rowsOf (drop from ls) (drop from rs)) f w i o ≡ firstOf fuel (rowsOf (drop k ls) (drop k rs)) f w i o
 unfolding windowOf
-skipping ls rs t f i o rows s = s .same rs rows f (windowOf 11 t (suc i)) i o
+skipping ls rs t f i o win rows s = rw win (s .same rs rows f (windowOf 11 t (suc i)) i o)
 
-module _ {ls rs : List (List ℕ)} {t : List ℕ} {from i : ℕ} {f : Flags} (rows : areRows ls rs ≡ true) where
-  pub search-none : {k : ℕ} → from ≤ length t + 12 → Skipped ls (shown (cellAt t i)) 0 k → Searching ls rs t from i f k from
-  search-none h s = record { even = rows-even ls rs rows; upto = s .within; on = omega arith; near = h; begins = s .begins; stands = λ o. record { same = ap (runFrom t from) (skipping ls rs t f i o rows s) } }
+module _ {ls rs : List (List ℕ)} {t w : List ℕ} {from i : ℕ} {f : Flags} (rows : areRows ls rs ≡ true) (win : w ≡ windowOf 12 t i) where
+  pub search-none : {k : ℕ} → from ≤ length t + 12 → Skipped ls (shown (cellAt t i)) 0 k → Searching ls rs t w from i f k from
+  search-none h s = record { even = rows-even ls rs rows; upto = s .within; on = omega arith; near = h; begins = s .begins; stands = λ o. record { same = ap (runFrom t from) (skipping ls rs t f i o win rows s) } }
 
-  module _ {k q : ℕ} (s : Searching ls rs t from i f k q) where
+  module _ {k q : ℕ} (s : Searching ls rs t w from i f k q) where
     pub search-row : k < length ls → Lettered (getD ls k []) (getD rs k [])
     search-row h = row-at ls rs k rows h
 
-    pub search-end : i ≤ length t → length ls ≤ k → Matched (rowsOf ls rs) t from i (windowOf 12 t i) f (None q)
+    pub search-end : i ≤ length t → length ls ≤ k → Matched (rowsOf ls rs) t from i w f (None q)
     unfolding firstOf
     search-end b h = record {
       from = omega arith;
@@ -262,22 +261,22 @@ module _ {ls rs : List (List ℕ)} {t : List ℕ} {from i : ℕ} {f : Flags} (ro
       says = λ o. rw (rows-over ls rs k h) at (s .stands o);
     }
 
-    module _ (h : k < length ls) {hit : Bool} {to : ℕ} (a : Attempt t q (getD ls k []) (getD rs k []) f (windowOf 12 t i) i hit to) where
-      tried : (o : Look Outcome) → Stands t from (firstOf fuel (rowsOf ls rs) f (windowOf 12 t i) i o)
-          (cond hit (done (outcomeOf (rowOf (getD ls k []) (getD rs k [])) f i)) (firstOf fuel (rowsOf (drop (k + 1) ls) (drop (k + 1) rs)) f (windowOf 12 t i) i o)) to
-      tried o = record { same = s .stands o .same ∙ ap (λ m. runFrom t q (firstOf fuel m f (windowOf 12 t i) i o)) (rows-more ls rs k rows h) ∙ a .stands _ o .same }
+    module _ (h : k < length ls) {hit : Bool} {to : ℕ} (a : Attempt t q (getD ls k []) (getD rs k []) f w i hit to) where
+      tried : (o : Look Outcome) → Stands t from (firstOf fuel (rowsOf ls rs) f w i o)
+          (cond hit (done (outcomeOf (rowOf (getD ls k []) (getD rs k [])) f i)) (firstOf fuel (rowsOf (drop (k + 1) ls) (drop (k + 1) rs)) f w i o)) to
+      tried o = record { same = s .stands o .same ∙ ap (λ m. runFrom t q (firstOf fuel m f w i o)) (rows-more ls rs k rows h) ∙ a .stands _ o .same }
 
-      pub search-more : hit ≡ false → {j : ℕ} → Skipped ls (shown (cellAt t i)) (k + 1) j → Searching ls rs t from i f j to
+      pub search-more : hit ≡ false → {j : ℕ} → Skipped ls (shown (cellAt t i)) (k + 1) j → Searching ls rs t w from i f j to
       search-more e d = record {
         even = s .even;
         upto = d .within;
         on = omega (arith, s .on, a .on);
         near = a .near;
         begins = d .begins;
-        stands = λ o. record { same = (rw e at (tried o)) .same ∙ ap (runFrom t to) (skipping ls rs t f i o rows d) };
+        stands = λ o. record { same = (rw e at (tried o)) .same ∙ ap (runFrom t to) (skipping ls rs t f i o win rows d) };
       }
 
-      pub search-hit : hit ≡ true → Matched (rowsOf ls rs) t from i (windowOf 12 t i) f (matchOf (getD rs k []) i to)
+      pub search-hit : hit ≡ true → Matched (rowsOf ls rs) t from i w f (matchOf (getD rs k []) i to)
       unfolding rowOf
       search-hit e =
           let r = search-row h in

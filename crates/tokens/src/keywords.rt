@@ -1,4 +1,4 @@
-// Words and symbols: words are rows of numbers, tried on the text's characters as the window shows them, in the source's order; a symbol is told by its characters.
+// Words and symbols: words are rows of numbers, tried on the window of twelve characters, which goes by value, in the source's order; a symbol is told by its characters.
 ghost use mathlib.Core.Path.{_≡_};
 ghost use mathlib.Core.Bool.{cond, true};
 ghost use mathlib.Core.List.{[], _∷_};
@@ -204,13 +204,13 @@ pub struct Tried {
     pub reach: usize,
 }
 
-// Whether what must follow stands behind a word of n letters at i.
-fn follows(rest: &[u32], i: usize, n: usize, follow: u32, reach: usize) -> Tried
+// Whether what must follow stands behind a word of n letters: in the window w, or in the text behind the whitespace from i + n on.
+fn follows(w: [u32; 12], rest: &[u32], i: usize, n: usize, follow: u32, reach: usize) -> Tried
     requires { ⌜ (length (now rest) ≤ maxChars) × (n < 12) × (i + n ≤ length (now rest)) × (reach ≤ length (now rest) + 12) ⌝ }
-    ensures { λ r. ⌜ Followed (now (rest .entry)) reach (followOf follow) (windowOf 12 (now (rest .entry)) i) n i (r .hit) (r .reach) ⌝ }
+    ensures { λ r. ⌜ Followed (now (rest .entry)) reach (followOf follow) w n i (r .hit) (r .reach) ⌝ }
 {
     if follow < LESS {
-        let hit = is_follower(follow, window::shown_at(rest, i + n));
+        let hit = is_follower(follow, w[n]);
         return Tried { hit, reach };
     }
     let j = look::blanks(rest, i + n);
@@ -242,14 +242,14 @@ fn wide(b: u8) -> u32
     b as u32
 }
 
-// Whether the first n letters of word k lead the window at i.
-fn leads(words: &[[u8; 9]], k: usize, n: usize, rest: &[u32], i: usize) -> bool
-    requires { ⌜ (k < length (now words)) × (n ≤ 9) × (n ≤ length (getD (now words) k [])) × (length (now rest) ≤ maxChars) × (i ≤ length (now rest)) ⌝ }
-    ensures { λ r. ⌜ r ≡ spec.leads (take n (getD (now (words .entry)) k [])) (windowOf 12 (now (rest .entry)) i) ⌝ }
+// Whether the first n letters of word k lead the window.
+fn leads(words: &[[u8; 9]], k: usize, n: usize, w: [u32; 12]) -> bool
+    requires { ⌜ (k < length (now words)) × (n ≤ 9) × (n ≤ length (getD (now words) k [])) ⌝ }
+    ensures { λ r. ⌜ r ≡ spec.leads (take n (getD (now (words .entry)) k [])) w ⌝ }
 {
     let mut j: usize = 0;
     while j < n {
-        if wide(words[k][j]) != window::shown_at(rest, i + j) {
+        if wide(words[k][j]) != w[j] {
             return false;
         }
         j += 1;
@@ -257,27 +257,28 @@ fn leads(words: &[[u8; 9]], k: usize, n: usize, rest: &[u32], i: usize) -> bool
     true
 }
 
-// Whether row k fits the window at i.
+// Whether row k fits the window w at i.
 fn try_row(
     words: &[[u8; 9]],
     rows: &[[u32; 6]],
     k: usize,
+    w: [u32; 12],
     rest: &[u32],
     i: usize,
     flags: Flags,
     reach: usize,
 ) -> Tried
-    requires { ⌜ (k < length (now words)) × (k < length (now rows)) × (Lettered (getD (now words) k []) (getD (now rows) k [])) × (length (now rest) ≤ maxChars) × (i ≤ length (now rest)) × (reach ≤ length (now rest) + 12) ⌝ }
-    ensures { λ r. ⌜ Attempt (now (rest .entry)) reach (getD (now (words .entry)) k []) (getD (now (rows .entry)) k []) (flagsOf flags) (windowOf 12 (now (rest .entry)) i) i (r .hit) (r .reach) ⌝ }
+    requires { ⌜ (k < length (now words)) × (k < length (now rows)) × (Lettered (getD (now words) k []) (getD (now rows) k [])) × (w ≡ windowOf 12 (now rest) i) × (length (now rest) ≤ maxChars) × (i ≤ length (now rest)) × (reach ≤ length (now rest) + 12) ⌝ }
+    ensures { λ r. ⌜ Attempt (now (rest .entry)) reach (getD (now (words .entry)) k []) (getD (now (rows .entry)) k []) (flagsOf flags) w i (r .hit) (r .reach) ⌝ }
 {
     if !is_taken(rows[k][2], flags) {
         return Tried { hit: false, reach };
     }
     let n = scope::compare::wide(rows[k][0]);
-    if !leads(words, k, n, rest, i) {
+    if !leads(words, k, n, w) {
         return Tried { hit: false, reach };
     }
-    follows(rest, i, n, rows[k][1], reach)
+    follows(w, rest, i, n, rows[k][1], reach)
 }
 
 // Found: type, value (by its number above), end and reach of the word. None: the reach.
@@ -295,23 +296,24 @@ fn answer(rows: &[[u32; 6]], k: usize, i: usize, reach: usize) -> Match
     Match::Found(rows[k][3], rows[k][4], i + n, reach)
 }
 
-// The first row that fits the window at i, where `first` is the first that begins as it does and r the reach so far.
+// The first row that fits the window w at i, where `first` is the first that begins as it does and r the reach so far.
 fn first_of(
     words: &[[u8; 9]],
     rows: &[[u32; 6]],
     first: usize,
+    w: [u32; 12],
     rest: &[u32],
     i: usize,
     flags: Flags,
     r: usize,
 ) -> Match
-    requires { ⌜ (areRows (now words) (now rows) ≡ true) × (areLinked (now words) (now rows) ≡ true) × (first ≡ placeOf (now words) (spec.shown (cellAt (now rest) i))) × (length (now rest) ≤ maxChars) × (i ≤ length (now rest)) × (r ≤ length (now rest) + 12) ⌝ }
-    ensures { λ m. ⌜ Matched (rowsOf (now (words .entry)) (now (rows .entry))) (now (rest .entry)) r i (windowOf 12 (now (rest .entry)) i) (flagsOf flags) m ⌝ }
+    requires { ⌜ (areRows (now words) (now rows) ≡ true) × (areLinked (now words) (now rows) ≡ true) × (first ≡ placeOf (now words) (spec.shown (cellAt (now rest) i))) × (w ≡ windowOf 12 (now rest) i) × (length (now rest) ≤ maxChars) × (i ≤ length (now rest)) × (r ≤ length (now rest) + 12) ⌝ }
+    ensures { λ m. ⌜ Matched (rowsOf (now (words .entry)) (now (rows .entry))) (now (rest .entry)) r i w (flagsOf flags) m ⌝ }
 {
     let mut reach = r;
     let mut k = first;
     while k < words.len() {
-        let t = try_row(words, rows, k, rest, i, flags, reach);
+        let t = try_row(words, rows, k, w, rest, i, flags, reach);
         reach = t.reach;
         if t.hit {
             return answer(rows, k, i, reach);
@@ -332,12 +334,12 @@ fn of_sign(kind: u32, n: usize, i: usize, reach: usize) -> Match
     Match::Found(kind, NOTHING, i + n, reach)
 }
 
-// The first word of letters that fits the window at i, where `first` is the first that begins as it does. The tables are not static data: who takes them copies them, so that this is asked only where there is one.
-fn of_letters(first: usize, rest: &[u32], i: usize, flags: Flags) -> Match
-    requires { ⌜ (length (now rest) ≤ maxChars) × (i ≤ length (now rest)) × (first ≡ placeOf initials (spec.shown (cellAt (now rest) i))) ⌝ }
-    ensures { λ m. ⌜ Matched letterWords (now (rest .entry)) (i + 12) i (windowOf 12 (now (rest .entry)) i) (flagsOf flags) m ⌝ }
+// The first word of letters that fits the window w at i, where `first` is the first that begins as it does. The tables are not static data: who takes them copies them, so that this is asked only where there is one.
+fn of_letters(first: usize, w: [u32; 12], rest: &[u32], i: usize, flags: Flags) -> Match
+    requires { ⌜ (length (now rest) ≤ maxChars) × (i ≤ length (now rest)) × (first ≡ placeOf initials (spec.shown (cellAt (now rest) i))) × (w ≡ windowOf 12 (now rest) i) ⌝ }
+    ensures { λ m. ⌜ Matched letterWords (now (rest .entry)) (i + 12) i w (flagsOf flags) m ⌝ }
 {
-    first_of(&WORDS, &WORD_ROWS, first, rest, i, flags, i + 12)
+    first_of(&WORDS, &WORD_ROWS, first, w, rest, i, flags, i + 12)
 }
 
 // The first word or symbol of two characters that fits the window at i, which has been looked at and begins with c.
@@ -348,7 +350,8 @@ pub fn first_word(rest: &[u32], i: usize, c: u32, flags: Flags) -> Match
 {
     let k = first_row(c);
     if k < 24 {
-        return of_letters(k, rest, i, flags);
+        let w = window::window(rest, i);
+        return of_letters(k, w, rest, i, flags);
     }
     let d = window::shown_at(rest, i + 1);
     let kind = pair(c, d);

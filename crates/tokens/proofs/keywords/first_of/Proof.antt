@@ -13,22 +13,22 @@ use Rattle.tokens.proofs.keywords.answer.Reads as answer-reads
 use Rattle.tokens.proofs.keywords.try_row.Reads as try-row-reads
 
 abbrev Inv-loop : tie.InvT-loop
-Inv-loop words rows first rest i flags r reach₀ k₀ reach k = Searching words rows rest r i (flagsOf flags) k reach
+Inv-loop words rows first w rest i flags r reach₀ k₀ reach k = Searching words rows rest w r i (flagsOf flags) k reach
 
 abbrev μ-loop : tie.MeasureT-loop
-μ-loop words rows first rest i flags r reach₀ k₀ reach k = length words - k
+μ-loop words rows first w rest i flags r reach₀ k₀ reach k = length words - k
 
 loop-holds : tie.Need-loop-holds Inv-loop μ-loop
-loop-holds c = search-none (c .before .pre .0) (omega arith) (skipped-first _ _ (c .before .pre .2))
+loop-holds c = search-none (c .before .pre .0) (c .before .pre .3) (omega arith) (skipped-first _ _ (c .before .pre .2))
 
 try-row-requires : tie.Need-try-row-requires Inv-loop μ-loop
-try-row-requires c κs = (omega arith, omega arith, search-row (c .before .before .before .pre .0) (c .before .loop .inv) (omega arith), omega arith, omega arith, omega arith)
+try-row-requires c κs = let z = c .before .before .before .pre in (omega arith, omega arith, search-row (z .0) (z .3) (c .before .loop .inv) (omega arith), z .3, omega arith, omega arith, omega arith)
 
 answer-requires : tie.Need-answer-requires Inv-loop μ-loop
-answer-requires c κs = let r = search-row (c .before .before .before .before .before .pre .0) (c .before .before .before .loop .inv) (omega arith) in omega arith
+answer-requires c κs = let z = c .before .before .before .before .before .pre in let r = search-row (z .0) (z .3) (c .before .before .before .loop .inv) (omega arith) in omega arith
 
 returns : tie.Need-returns Inv-loop μ-loop
-returns c = rw (c .answer .ensures) (search-hit (c .before .before .before .before .before .before .pre .0) (c .before .before .before .before .loop .inv) (omega arith) (c .before .before .try-row .ensures) (c .before .if1 .taken))
+returns c = let z = c .before .before .before .before .before .before .pre in rw (c .answer .ensures) (search-hit (z .0) (z .3) (c .before .before .before .before .loop .inv) (omega arith) (c .before .before .try-row .ensures) (c .before .if1 .taken))
 
 mul-wide : tie.Need-mul-wide Inv-loop μ-loop
 mul-wide c = omega arith
@@ -52,11 +52,11 @@ loop-again : tie.Need-loop-again Inv-loop μ-loop
 loop-again c =
     let z = c .before .before .before .before .before .before .before .pre in
     let s = c .before .before .before .before .before .loop .inv in
-    search-more (z .0) s (omega arith) (c .before .before .before .try-row .ensures) (c .before .before .if1 .left)
+    search-more (z .0) (z .3) s (omega arith) (c .before .before .before .try-row .ensures) (c .before .before .if1 .left)
     (skipped-next _ _ (z .1) (omega arith) (s .begins (omega arith)) (c .wide .ensures))
 
 returns-2 : tie.Need-returns-2 Inv-loop μ-loop
-returns-2 c = search-end (c .before .before .before .pre .0) (c .before .loop .inv) (omega arith) (omega arith)
+returns-2 c = let z = c .before .before .before .pre in search-end (z .0) (z .3) (c .before .loop .inv) (omega arith) (omega arith)
 
 pub first-of-spec : {M : Type 1} → statement M
 first-of-spec =

@@ -10,6 +10,7 @@ use Rattle.tokens.proofs.keywords.first_word.Tie as tie
 use Rattle.tokens.proofs.keywords.first_word.Reads as reads
 use Rattle.tokens.proofs.keywords.first_word.Lts as lts
 use Rattle.lexer.proofs.window.shown_at.Reads as shown-at-reads
+use Rattle.lexer.proofs.window.window.Reads as window-reads
 use Rattle.tokens.proofs.keywords.first_row.Reads as first-row-reads
 use Rattle.tokens.proofs.keywords.of_letters.Reads as of-letters-reads
 use Rattle.tokens.proofs.keywords.of_sign.Reads as of-sign-reads
@@ -18,14 +19,17 @@ use Rattle.tokens.proofs.keywords.pair.Reads as pair-reads
 first-row-requires : tie.Need-first-row-requires
 first-row-requires c κs = search needs
 
+window-requires : tie.Need-window-requires
+window-requires c κs = search needs
+
 of-letters-requires : tie.Need-of-letters-requires
-of-letters-requires c κs = let k = c .before in (omega arith, omega arith, k .first-row .ensures ∙ ap (placeOf initials) (k .before .before .pre .2))
+of-letters-requires c κs = let k = c .before .before in (omega arith, omega arith, k .first-row .ensures ∙ ap (placeOf initials) (k .before .before .pre .2), c .window .ensures)
 
 returns : tie.Need-returns
 returns c =
-    let k = c .before .before in
+    let k = c .before .before .before in
     let z = k .before .before in
-    by-letters (z .args .rest .now) (z .args .i) (k .first-row .ensures ∙ ap (placeOf initials) (z .pre .2)) (omega arith) (c .of-letters .ensures)
+    by-letters (z .args .rest .now) (z .args .i) (k .first-row .ensures ∙ ap (placeOf initials) (z .pre .2)) (omega arith) (rw (c .before .window .ensures) at (c .of-letters .ensures))
 
 add-shown-at : tie.Need-add-shown-at
 add-shown-at c = search needs
@@ -56,6 +60,7 @@ first-word-spec =
     tie.close
     (tie.spec
     first-row-requires
+    window-requires
     of-letters-requires
     returns
     add-shown-at

@@ -8,21 +8,20 @@ use Rattle.tokens.proofs.keywords.follows.Reads as reads
 use Rattle.tokens.proofs.keywords.follows.Lts as lts
 use Rattle.lexer.proofs.look.blanks.Reads as blanks-reads
 use Rattle.lexer.proofs.look.larger.Reads as larger-reads
-use Rattle.lexer.proofs.window.shown_at.Reads as shown-at-reads
 use Rattle.tokens.proofs.keywords.follower_at.Reads as follower-at-reads
 use Rattle.tokens.proofs.keywords.is_follower.Reads as is-follower-reads
 
-add-shown-at : tie.Need-add-shown-at
-add-shown-at c = search needs
+mul-is-follower : tie.Need-mul-is-follower
+mul-is-follower c = search needs
 
-shown-at-requires : tie.Need-shown-at-requires
-shown-at-requires c κs = search needs
+array-read-is-follower : tie.Need-array-read-is-follower
+array-read-is-follower c = search needs
 
 is-follower-requires : tie.Need-is-follower-requires
 is-follower-requires c κs = search needs
 
 returns : tie.Need-returns
-returns c = followed-next (omega arith) (omega arith) (omega arith) (rw (c .before .shown-at .ensures) at (c .is-follower .ensures))
+returns c = followed-next (omega arith) (omega arith) (omega arith) (c .is-follower .ensures)
 
 add-blanks : tie.Need-add-blanks
 add-blanks c = search needs
@@ -46,8 +45,8 @@ pub follows-spec : {M : Type 1} → statement M
 follows-spec =
     tie.close
     (tie.spec
-    add-shown-at
-    shown-at-requires
+    mul-is-follower
+    array-read-is-follower
     is-follower-requires
     returns
     add-blanks

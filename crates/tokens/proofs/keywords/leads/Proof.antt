@@ -3,21 +3,19 @@ use mathlib.Core.Path.{sym, _∙_}
 use Prim.Native.Nat.{_-_}
 use mathlib.Core.List.{[]}
 use lib.ListN.{getD}
-use Rattle.lexer.specs.Shown.{windowOf}
-use Rattle.tokens.proofs.KeywordLaws.{Leading, leading-none, leading-more, leading-off, leading-end, window-cell, window-length}
+use Rattle.tokens.proofs.KeywordLaws.{Leading, leading-none, leading-more, leading-off, leading-end}
 use native.Mathlib.Omega.{arith}
 use Rattle.tokens.proofs.keywords.leads.Statement.{statement}
 use Rattle.tokens.proofs.keywords.leads.Tie as tie
 use Rattle.tokens.proofs.keywords.leads.Reads as reads
 use Rattle.tokens.proofs.keywords.leads.Lts as lts
-use Rattle.lexer.proofs.window.shown_at.Reads as shown-at-reads
 use Rattle.tokens.proofs.keywords.wide.Reads as wide-reads
 
 abbrev Inv-loop : tie.InvT-loop
-Inv-loop words k n rest i j₀ j = Leading (getD words k []) n (windowOf 12 rest i) j
+Inv-loop words k n w j₀ j = Leading (getD words k []) n w j
 
 abbrev μ-loop : tie.MeasureT-loop
-μ-loop words k n rest i j₀ j = n - j
+μ-loop words k n w j₀ j = n - j
 
 loop-holds : tie.Need-loop-holds Inv-loop μ-loop
 loop-holds c = leading-none _ _ _
@@ -34,18 +32,16 @@ index-2-wide c = omega arith
 wide-requires : tie.Need-wide-requires Inv-loop μ-loop
 wide-requires c κs = tt
 
-add-shown-at : tie.Need-add-shown-at Inv-loop μ-loop
-add-shown-at c = omega arith
+mul-if1 : tie.Need-mul-if1 Inv-loop μ-loop
+mul-if1 c = omega arith
 
-shown-at-requires : tie.Need-shown-at-requires Inv-loop μ-loop
-shown-at-requires c κs = tt
+array-read-if1 : tie.Need-array-read-if1 Inv-loop μ-loop
+array-read-if1 c = omega arith
 
 returns : tie.Need-returns Inv-loop μ-loop
 returns c =
-    let k = c .before .before .before .before .before in
-    let x = k .before .before .args in
-    let cell = window-cell 12 (x .rest .now) (x .i) (k .loop .j) 0 (omega arith) in
-    leading-off (k .loop .inv) (omega arith) (omega arith) (omega (arith, window-length 12 (x .rest .now) (x .i))) (λ e. c .if1 .taken (c .before .before .wide .ensures ∙ e ∙ cell ∙ sym (c .before .shown-at .ensures)))
+    let k = c .before .before .before .before in
+    leading-off (k .loop .inv) (omega arith) (omega arith) (omega arith) (λ e. c .if1 .taken (c .before .wide .ensures ∙ e))
 
 add-j : tie.Need-add-j Inv-loop μ-loop
 add-j c = omega arith
@@ -55,10 +51,8 @@ loop-less c = omega arith
 
 loop-again : tie.Need-loop-again Inv-loop μ-loop
 loop-again c =
-    let k = c .before .before .before .before .before in
-    let x = k .before .before .args in
-    let cell = window-cell 12 (x .rest .now) (x .i) (k .loop .j) 0 (omega arith) in
-    leading-more (k .loop .inv) (omega arith) (omega arith) (omega (arith, window-length 12 (x .rest .now) (x .i))) (sym (c .before .before .wide .ensures) ∙ c .if1 .left ∙ c .before .shown-at .ensures ∙ sym cell)
+    let k = c .before .before .before .before in
+    leading-more (k .loop .inv) (omega arith) (omega arith) (omega arith) (sym (c .before .wide .ensures) ∙ c .if1 .left)
 
 returns-2 : tie.Need-returns-2 Inv-loop μ-loop
 returns-2 c = leading-end (c .before .loop .inv) (omega arith) (omega arith)
@@ -74,8 +68,8 @@ leads-spec =
     index-1-wide
     index-2-wide
     wide-requires
-    add-shown-at
-    shown-at-requires
+    mul-if1
+    array-read-if1
     returns
     add-j
     loop-less

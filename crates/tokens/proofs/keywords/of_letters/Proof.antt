@@ -21,7 +21,7 @@ add-first-of c = search needs
 
 first-of-requires : tie.Need-first-of-requires
 unfolding areRows areLinked placeOf initials
-first-of-requires c κs = let k = c .before .before .before in (refl, refl, k .pre .2, omega arith, omega arith, omega arith)
+first-of-requires c κs = let k = c .before .before .before in (refl, refl, k .pre .2, k .pre .3, omega arith, omega arith, omega arith)
 
 returns : tie.Need-returns
 unfolding letterWords rowsOf

@@ -55,10 +55,10 @@ index-2-follows : tie.Need-index-2-follows
 index-2-follows c = search needs
 
 follows-requires : tie.Need-follows-requires
-follows-requires c κs = let z = c .before .before .before .before .before .before .before .before .before .pre in let l = word-inside _ _ (z .2) (omega arith) (c .before .before .before .wide .ensures) (c .before .before .leads .ensures) (not-false _ (c .before .if2 .left)) in omega arith
+follows-requires c κs = let z = c .before .before .before .before .before .before .before .before .before .pre in let l = word-inside _ _ (z .2) (z .3) (omega arith) (c .before .before .before .wide .ensures) (c .before .before .leads .ensures) (not-false _ (c .before .if2 .left)) in omega arith
 
 returns-3 : tie.Need-returns-3
-returns-3 c = let z = c .before .before .before .before .before .before .before .before .before .before .pre in tried-followed (omega arith) (c .before .before .before .before .wide .ensures) (c .before .before .before .leads .ensures) (z .2) (omega arith) (c .before .before .before .before .before .before .before .is-taken .ensures) (not-false _ (c .before .before .before .before .before .before .if1 .left)) (not-false _ (c .before .before .if2 .left)) (c .follows .ensures)
+returns-3 c = let z = c .before .before .before .before .before .before .before .before .before .before .pre in tried-followed (omega arith) (c .before .before .before .before .wide .ensures) (c .before .before .before .leads .ensures) (z .2) (z .3) (omega arith) (c .before .before .before .before .before .before .before .is-taken .ensures) (not-false _ (c .before .before .before .before .before .before .if1 .left)) (not-false _ (c .before .before .if2 .left)) (c .follows .ensures)
 
 pub try-row-spec : {M : Type 1} → statement M
 try-row-spec =
