@@ -13,7 +13,6 @@ use Rattle.lexer.specs.Flags.{Flags}
 use Rattle.runs.specs.Edit.{Edit, moved}
 use Rattle.runs.specs.Repair.{sameFlags}
 use Rattle.runs.specs.Record.{flagBits, bitFlags, refusedAt, flagsAt}
-use Rattle.runs.specs.Request.{hasKind}
 use Rattle.repair.specs.Match.{Accepted, placeAt, Passed, Before, Ahead, Looked}
 use Rattle.runs.proofs.RepairLaws.{same-flags}
 use Rattle.runs.proofs.RecordLaws.{bits-back, bits-again}
@@ -77,7 +76,7 @@ module _ {e : Edit} {rows : List (List ℕ)} {j p : ℕ} (s : Passed e rows j p)
         let r = getD rows j [] in
         let n = getD r flagsAt 0 in
         let w = record-row (a .size) (record { rows = rows; store = a .store }) (a .fits) j (omega arith) .row in
-        let small : n ≤ 31 = leb-true n 31 (both (leb (getD r refusedAt 0) 1) (leb n 31) (both (leb (getD r refusedAt 0) 1 && leb n 31) (hasKind r) w .0) .1) in
+        let small : n ≤ 31 = leb-true n 31 (both (leb (getD r refusedAt 0) 1) (leb n 31) (both (leb (getD r refusedAt 0) 1 && leb n 31) _ w .0) .1) in
         record {
           found = λ b. record { more = h; behind = o .so h .0; place = q; rest = λ store. match-here s (record-rising (a .size) (record { rows = rows; store = a .store }) (a .fits)) h (o .so h .0) store f q (numbers-same n f (rw z at b)) };
           missed = λ b store. match-none s (record-rising (a .size) (record { rows = rows; store = a .store }) (a .fits)) h (o .so h .0) store f (o .so h .1) (λ _. numbers-differ n f small (rw z at b));

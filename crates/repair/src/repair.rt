@@ -33,6 +33,7 @@ use runs::item::Item;
 use runs::run;
 use runs::run::Progress;
 use scope::scope::Scope;
+use text::refusal::Refusal;
 
 // Fresh items are written up to here, and the old rows from `old` on follow.
 pub struct Matched {
@@ -301,7 +302,7 @@ pub fn repair(
 {
     call::clear(scratch);
     if request::is_broken_request(old_length, old_rows, old_store, from, to, size, part) {
-        return Made::Refused(13);
+        return Made::Refused(Refusal::BROKEN_REQUEST);
     }
     let n = call::refusal(
         old_length - to + (from + size),
@@ -312,7 +313,7 @@ pub fn repair(
         store.len(),
         scratch.len(),
     );
-    if 0 < n {
+    if Refusal::NONE < n {
         return Made::Refused(n);
     }
     let e = Edit { from, to, size };

@@ -5,36 +5,19 @@ ghost use lib.Dec.{eqb};
 ghost use lib.ListN.{length, drop, getD};
 ghost use Rattle.text.specs.Limits.{maxChars};
 ghost use Rattle.lexer.specs.Read.{isLast};
-ghost use Rattle.runs.specs.Record.{refusedAt, numberAt, lengthAt, beforeAt, afterAt, exponentAt};
+ghost use Rattle.runs.specs.Record.{refusedAt, numberAt};
 ghost use Rattle.runs.specs.Request as spec;
 ghost use Rattle.repair.specs.Asking.{asked};
 use crate::kept;
+use lexer::flags::Flags;
+use lexer::token_type::TokenType;
 use runs::cell;
 use runs::item::Item;
-
-// 01: the longest text.
-const MAX_CHARS: usize = 16384;
-
-// The types that are known by their value or that end a run.
-const YY_EOF: u32 = 0;
-
-const YY_ERROR: u32 = 256;
-
-const YY_UNDEF: u32 = 257;
-
-const NUMERIC: u32 = 287;
-
-const BOOLEAN: u32 = 289;
-
-fn no_lengths(row: &[u32; 11]) -> bool
-    ensures { λ r. ⌜ r ≡ spec.noLengths (now (row .entry)) ⌝ }
-{
-    (row[Item::BEFORE] == 0) & (row[Item::AFTER] == 0) & (row[Item::EXPONENT] == 0)
-}
+use text::utf8::Text;
 
 // Whether a number's three lengths are its value's.
 fn adds_up(row: &[u32; 11]) -> bool
-    ensures { λ r. ⌜ r ≡ eqb (getD (now (row .entry)) beforeAt 0 + getD (now (row .entry)) afterAt 0 + getD (now (row .entry)) exponentAt 0) (getD (now (row .entry)) lengthAt 0) ⌝ }
+    ensures { λ r. ⌜ r ≡ spec.addsUp (now (row .entry)) ⌝ }
 {
     let before = cell::wide(row[Item::BEFORE]);
     let after = cell::wide(row[Item::AFTER]);
@@ -42,26 +25,16 @@ fn adds_up(row: &[u32; 11]) -> bool
     before + after + exponent == cell::wide(row[Item::LENGTH])
 }
 
-fn has_kind(row: &[u32; 11]) -> bool
-    ensures { λ r. ⌜ r ≡ spec.hasKind (now (row .entry)) ⌝ }
+fn is_number(row: &[u32; 11]) -> bool
+    ensures { λ r. ⌜ r ≡ spec.isNumber (now (row .entry)) ⌝ }
 {
-    let none = no_lengths(row);
-    if row[Item::REFUSED] == 1 {
-        return (row[Item::LENGTH] == 0) & none;
-    }
-    if NUMERIC == row[Item::NUMBER] {
-        return adds_up(row) & (row[Item::EXTRA] <= 1);
-    }
-    if BOOLEAN == row[Item::NUMBER] {
-        return (row[Item::LENGTH] == 0) & none & (row[Item::EXTRA] <= 1);
-    }
-    none & (row[Item::EXTRA] == 0)
+    (row[Item::REFUSED] != 1) & (TokenType::NUMERIC == row[Item::NUMBER])
 }
 
 fn is_row(row: &[u32; 11]) -> bool
     ensures { λ r. ⌜ r ≡ spec.isRow (now (row .entry)) ⌝ }
 {
-    (row[Item::REFUSED] <= 1) & (row[Item::FLAGS] <= 31) & has_kind(row)
+    (row[Item::REFUSED] <= 1) & (row[Item::FLAGS] <= Flags::ALL) & (!is_number(row) | adds_up(row))
 }
 
 // Whether a run ends with this row.
@@ -72,13 +45,13 @@ fn ends_run(row: &[u32; 11]) -> bool
         return true;
     }
     let n = row[Item::NUMBER];
-    if YY_EOF == n {
+    if TokenType::YY_EOF == n {
         return true;
     }
-    if YY_UNDEF == n {
+    if TokenType::YY_UNDEF == n {
         return true;
     }
-    YY_ERROR == n
+    TokenType::YY_ERROR == n
 }
 
 // Whether the row fits behind position p, over n characters; the last value ended at `at` of a store of m cells.
@@ -187,7 +160,7 @@ pub fn is_broken_request(
     if old_length < to {
         return true;
     }
-    if MAX_CHARS < old_length {
+    if Text::MAX_CHARS < old_length {
         return true;
     }
     if !record_fits(old_length, rows, store) {

@@ -1,7 +1,7 @@
 -- Answers of the calls run and repair with the slices that they leave: refusals in their order, and a record in its front, computed.
 use mathlib.Core.Path.{_≡_, refl}
 use mathlib.Core.List.{List, [], _∷_, _++_, map}
-use Prim.Native.Nat.{ℕ, zero, suc}
+use Prim.Native.Nat.{ℕ, zero, suc, _-_}
 use Rattle.reading.specs.Codes.{codes}
 use Rattle.reading.specs.Look.{cellAt}
 use Rattle.reading.specs.Slices.{zeros}
@@ -57,6 +57,22 @@ record₂ = record { rows = (0 ∷ 258 ∷ 0 ∷ 0 ∷ 0 ∷ 0 ∷ 0 ∷ 0 ∷ 0
 abbrev request : ℕ → ℕ → List ℕ → Request
 request a b part = record { oldLength = 2; old = record₂; edit = record { from = a; to = b; size = 1 }; part = part }
 
+-- A row of reach and position `at`, with one value cell behind those of the rows before it: refused, number, flags, and its last four numbers.
+abbrev row : ℕ → ℕ → ℕ → ℕ → List ℕ → List ℕ
+row at r number flags more = r ∷ number ∷ at ∷ flags ∷ at ∷ (at - 1) ∷ 1 ∷ more
+
+-- A record of two characters that no run made, and an edit behind them, which keeps all of it.
+abbrev odd : List ℕ → List ℕ → Request
+odd r s = record {
+  oldLength = 2;
+  old = record { rows = (0 ∷ 258 ∷ 0 ∷ 0 ∷ 0 ∷ 0 ∷ 0 ∷ 0 ∷ 0 ∷ 0 ∷ 0 ∷ []) ∷ r ∷ s ∷ []; store = 7 ∷ 8 ∷ [] };
+  edit = record { from = 2; to = 2; size = 0 };
+  part = [];
+}
+
+abbrev eof : List ℕ
+eof = row 2 0 0 0 (0 ∷ 0 ∷ 0 ∷ 0 ∷ [])
+
 pub record Case : Type 0 where
   pub call : Call
   pub answer : Answer
@@ -64,6 +80,14 @@ pub record Case : Type 0 where
 abbrev case : Call → Answer → Case
 case c a = record { call = c; answer = a }
 
+abbrev comesBack : Request → Case
+comesBack q = case (repair 1 2 q) (made (q .old))
+
+abbrev is13 : Request → Case
+is13 q = case (repair 1 2 q) (refused 13)
+
+-- Of the rows that no run made, those come back as they were that 01's list for 13 does not name: a Boolean of 2 with a value, flags all set; a refusal with a value and lengths;
+-- a Name with lengths and a carry; a number with a sign of 7. A number whose lengths do not add up, refused 2 and flags 32 are 13.
 abbrev pub cases : List Case
 cases =
     case (run 1 2 (codes "\"a")) (made record₂)
@@ -77,6 +101,12 @@ cases =
     ∷ case (repair 33 0 (record { oldLength = 2; old = record₂; edit = record { from = 1; to = 2; size = 16384 }; part = zeros 16385 })) (refused 1)
     ∷ case (repair 33 0 (request 1 2 (codes "\"b"))) (refused 10)
     ∷ case (repair 1 1 (request 1 2 (codes "\"b"))) (refused 9)
+    ∷ comesBack (odd (row 1 0 289 31 (0 ∷ 0 ∷ 0 ∷ 2 ∷ [])) (row 2 1 287 0 (4 ∷ 5 ∷ 6 ∷ 7 ∷ [])))
+    ∷ comesBack (odd (row 1 0 310 0 (4 ∷ 5 ∷ 6 ∷ 7 ∷ [])) eof)
+    ∷ comesBack (odd (row 1 0 287 0 (0 ∷ 1 ∷ 0 ∷ 7 ∷ [])) eof)
+    ∷ is13 (odd (row 1 0 287 0 (1 ∷ 1 ∷ 0 ∷ 0 ∷ [])) eof)
+    ∷ is13 (odd (row 1 0 310 0 (0 ∷ 0 ∷ 0 ∷ 0 ∷ [])) (row 2 2 0 0 (0 ∷ 0 ∷ 0 ∷ 0 ∷ [])))
+    ∷ is13 (odd (row 1 0 310 32 (0 ∷ 0 ∷ 0 ∷ 0 ∷ [])) eof)
     ∷ []
 
 pub answer-cases : map (λ c. answered (c .call)) cases ≡ map (λ c. c .answer) cases

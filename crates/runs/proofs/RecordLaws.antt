@@ -13,7 +13,7 @@ use Rattle.lexer.specs.Flags.{Flags}
 use Rattle.runs.specs.Item.{Item, bit}
 use Rattle.runs.specs.Repair.{sameFlags}
 use Rattle.runs.specs.Record.{flagBits, bitFlags, refusedAt, flagsAt, startAt, lengthAt, rowOf, rowsFrom, storeOf, itemOf, unpack}
-use Rattle.runs.specs.Request.{hasKind, isRow}
+use Rattle.runs.specs.Request.{isRow}
 use Rattle.runs.proofs.RepairLaws.{same-flags}
 
 bit-back : (b : Bool) → eqb (bit b) 1 ≡ b
@@ -86,6 +86,6 @@ module _ (r : List ℕ) (eleven : length r ≡ 11) where
 
   pub row-again : (store : List ℕ) → isRow r ≡ true → getD r startAt 0 + getD r lengthAt 0 ≤ length store → rowOf (getD r startAt 0) (itemOf store r) ≡ r
   row-again store h l =
-      let small = both (leb (getD r refusedAt 0) 1) (leb (getD r flagsAt 0) 31) (both (leb (getD r refusedAt 0) 1 && leb (getD r flagsAt 0) 31) (hasKind r) h .0) in
+      let small = both (leb (getD r refusedAt 0) 1) (leb (getD r flagsAt 0) 31) (both (leb (getD r refusedAt 0) 1 && leb (getD r flagsAt 0) 31) _ h .0) in
       let size : length (take (getD r lengthAt 0) (drop (getD r startAt 0) store)) ≡ getD r lengthAt 0 = simp (length-take, length-drop) (omega arith) in
       rw (bit-again (getD r refusedAt 0) (leb-true _ _ (small .0)), bits-again (getD r flagsAt 0) (leb-true _ _ (small .1)), size) (sym row-places)

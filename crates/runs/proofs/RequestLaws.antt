@@ -8,7 +8,7 @@ use lib.Dec.{eqb}
 use borrow.Author.Tests.{le-leb, lt-ltb, eq-eqb, eqb-true, not-true}
 use lib.ListN.{length, drop, length-append, length-drop}
 use Rattle.reading.specs.Cells.{isOneOf}
-use Rattle.reading.proofs.Test.{by-test, both, every}
+use Rattle.reading.proofs.Test.{by-test, every}
 use Rattle.text.specs.Limits.{maxChars}
 use Rattle.lexer.specs.Flags.{Flags}
 use Rattle.lexer.specs.Read.{Read, token, refused, nothing, truth, number, chars, cellsOf, textTypes, hasForm}
@@ -17,7 +17,7 @@ use Rattle.lexer.specs.TokenType
 use Rattle.runs.specs.Item.{Item, item, bit, endsRun}
 use Rattle.runs.specs.Run.{Reader, seen, itemAt, items, startItem, runItems}
 use Rattle.runs.specs.Record.{flagBits, rowOf, rowsFrom, storeOf}
-use Rattle.runs.specs.Request.{hasKind, rowFits, rowsFit, recordFits}
+use Rattle.runs.specs.Request.{isNumber, addsUp, rowFits, rowsFit, recordFits}
 use Rattle.runs.proofs.RecordLaws.{row-count}
 use Rattle.runs.proofs.RunLaws.{Runs, last, more, IsSound, complete, item-count}
 
@@ -35,32 +35,26 @@ bit-small false = omega arith
 flags-small : (f : Flags) → flagBits f ≤ 31
 flags-small f = omega (arith, bit-small (f .unaryTests), bit-small (f .between), bit-small (f .typeName), bit-small (f .tillIn), bit-small (f .afterDot))
 
--- Each row has the kind of what was read.
+-- The lengths of a number that was read add up.
 module _ (start p q : ℕ) (f : Flags) where
-  abbrev Kind : Read → Type 0
-  Kind r = hasKind (rowOf start (item r p f q)) ≡ true
+  abbrev Adds : Read → Type 0
+  Adds r = let row = rowOf start (item r p f q) in not (isNumber row) || addsUp row ≡ true
 
-  abbrev isOther : ℕ → Bool
-  isOther k = not (eqb TokenType.Numeric k) && not (eqb TokenType.Boolean k)
-
-  kind : (r : Read) → hasForm r ≡ true → Kind r
-  kind (token k nothing) h =
+  adds : (r : Read) → hasForm r ≡ true → Adds r
+  adds (token k nothing) h =
       let b = neither (eqb TokenType.Boolean k) (isOneOf (TokenType.Numeric ∷ textTypes) k) h in
-      let n = neither (eqb TokenType.Numeric k) (isOneOf textTypes k) (b .1) in
-      rw (n .0, b .0)
-  kind (token k (truth b)) h = subst (λ k. Kind (token k (truth b))) (eqb-true TokenType.Boolean k h) (le-leb _ _ (bit-small b))
-  kind (token k (number b a m e)) h = subst (λ k. Kind (token k (number b a m e))) (eqb-true TokenType.Numeric k h) (and (eq-eqb (length b + length a + length e) (length (b ++ a ++ e)) (simp length-append)) (le-leb _ _ (bit-small m)))
-  kind (token k (chars cs)) h =
-      let b = both (not (eqb TokenType.Numeric k)) _ (every isOther textTypes k refl h) in
-      rw (not-true (eqb TokenType.Numeric k) (b .0), not-true (eqb TokenType.Boolean k) (b .1))
-  kind (refused n c) h = refl
+      rw (neither (eqb TokenType.Numeric k) (isOneOf textTypes k) (b .1) .0)
+  adds (token k (truth b)) h = subst (λ k. Adds (token k (truth b))) (eqb-true TokenType.Boolean k h) refl
+  adds (token k (number b a m e)) h = subst (λ k. Adds (token k (number b a m e))) (eqb-true TokenType.Numeric k h) (eq-eqb (length b + length a + length e) (length (b ++ a ++ e)) (simp length-append))
+  adds (token k (chars cs)) h = rw (not-true (eqb TokenType.Numeric k) (every (λ k. not (eqb TokenType.Numeric k)) textTypes k refl h))
+  adds (refused n c) h = refl
 
 row-fits : (n m at p : ℕ) (r : Read) (j : ℕ) (f : Flags) (q : ℕ) → hasForm r ≡ true → j ≤ n → j ≤ q → q ≤ n + 12 → at + length (cellsOf r) ≤ m → p + length (cellsOf r) ≤ j
     → rowFits n m at p (rowOf at (item r j f q)) ≡ true
 row-fits n m at p r j f q h a b c d e =
     let i = item r j f q in
     let small : bit (i .isRefusal) ≤ 1 = bit-small (i .isRefusal) in
-    and (and (and (and (and (and (and (and (le-leb _ _ small) (le-leb _ _ (flags-small f))) (kind at j q f r h)) (le-leb _ _ a)) (le-leb _ _ b)) (le-leb _ _ c)) (eq-eqb at at refl)) (le-leb _ _ d)) (le-leb _ _ e)
+    and (and (and (and (and (and (and (and (le-leb _ _ small) (le-leb _ _ (flags-small f))) (adds at j q f r h)) (le-leb _ _ a)) (le-leb _ _ b)) (le-leb _ _ c)) (eq-eqb at at refl)) (le-leb _ _ d)) (le-leb _ _ e)
 
 module _ (tok : Reader) (sound : IsSound tok) (t : List ℕ) (limit : length t ≤ maxChars) where
   item-fits : (p : ℕ) (f : Flags) (m at : ℕ) → p ≤ length t → at + length (itemAt tok t p f .value) ≤ m → rowFits (length t) m at p (rowOf at (itemAt tok t p f)) ≡ true

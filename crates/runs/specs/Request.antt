@@ -9,7 +9,7 @@ use Rattle.lexer.specs.Read.{isLast}
 use Rattle.lexer.specs.TokenType
 use Rattle.runs.specs.Edit.{Edit, moved}
 use Rattle.runs.specs.Repair.{lastKept}
-use Rattle.runs.specs.Record.{Record, refusedAt, numberAt, positionAt, flagsAt, reachAt, startAt, lengthAt, beforeAt, afterAt, exponentAt, extraAt, unpack}
+use Rattle.runs.specs.Record.{Record, refusedAt, numberAt, positionAt, flagsAt, reachAt, startAt, lengthAt, beforeAt, afterAt, exponentAt, unpack}
 
 -- Old length, old record with its value store, the edit, and the new text from the last kept position on.
 pub record Request : Type 0 where
@@ -18,19 +18,15 @@ pub record Request : Type 0 where
   pub edit : Edit
   pub part : List ℕ
 
-abbrev pub noLengths : List ℕ → Bool
-noLengths r = eqb (getD r beforeAt 0) 0 && eqb (getD r afterAt 0) 0 && eqb (getD r exponentAt 0) 0
+abbrev pub isNumber : List ℕ → Bool
+isNumber r = not (eqb (getD r refusedAt 0) 1) && eqb TokenType.Numeric (getD r numberAt 0)
 
--- The row is an item's: a number's lengths add up, a Boolean and a sign are 0 or 1, and what items of its kind do not use is 0.
-abbrev pub hasKind : List ℕ → Bool
-hasKind r =
-    cond (eqb (getD r refusedAt 0) 1) (eqb (getD r lengthAt 0) 0 && noLengths r)
-    (cond (eqb TokenType.Numeric (getD r numberAt 0)) (eqb (getD r beforeAt 0 + getD r afterAt 0 + getD r exponentAt 0) (getD r lengthAt 0) && leb (getD r extraAt 0) 1)
-    (cond (eqb TokenType.Boolean (getD r numberAt 0)) (eqb (getD r lengthAt 0) 0 && noLengths r && leb (getD r extraAt 0) 1)
-    (noLengths r && eqb (getD r extraAt 0) 0)))
+abbrev pub addsUp : List ℕ → Bool
+addsUp r = eqb (getD r beforeAt 0 + getD r afterAt 0 + getD r exponentAt 0) (getD r lengthAt 0)
 
+-- The row is an item's: it is refused or not, with five flags. 01 asks of its other numbers only that a number's lengths add up.
 abbrev pub isRow : List ℕ → Bool
-isRow r = leb (getD r refusedAt 0) 1 && leb (getD r flagsAt 0) 31 && hasKind r
+isRow r = leb (getD r refusedAt 0) 1 && leb (getD r flagsAt 0) 31 && (not (isNumber r) || addsUp r)
 
 -- A row behind position p, over a text of n characters; the last value ended at `at` of a store of m cells.
 abbrev pub rowFits : ℕ → ℕ → ℕ → ℕ → List ℕ → Bool

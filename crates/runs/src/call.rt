@@ -5,6 +5,7 @@ ghost use Rattle.reading.specs.Slices.{zeros};
 ghost use Rattle.scope.specs.Answers.{lent};
 ghost use Rattle.runs.specs.Ran as ran;
 use scope::scope::Scope;
+use text::refusal::Refusal;
 use text::utf8::Text;
 
 // A record's number of rows and of value cells, or the number of a refusal.
@@ -35,19 +36,19 @@ pub fn refusal(
     ensures { λ r. ⌜ r ≡ ran.refusal (lent s (now (slots .entry)) (now (names .entry))) n rows store scratch ⌝ }
 {
     if Text::MAX_CHARS < n {
-        return 1;
+        return Refusal::TOO_LONG;
     }
     if scope::broken::is_broken(s, slots, names) {
-        return 10;
+        return Refusal::BROKEN_SCOPE;
     }
     if rows < n + 2 {
-        return 9;
+        return Refusal::SHORT_SLICE;
     }
     if store < n {
-        return 9;
+        return Refusal::SHORT_SLICE;
     }
     if scratch < 2 * n {
-        return 9;
+        return Refusal::SHORT_SLICE;
     }
-    0
+    Refusal::NONE
 }

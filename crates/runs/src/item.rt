@@ -10,6 +10,7 @@ ghost use Rattle.runs.specs.Record.{flagBits, hasBit, bitFlags};
 ghost use Rattle.runs.specs.Coded.{cellCount, plain, itemFrom, Small, rowFrom};
 use lexer::flags::Flags;
 use lexer::token::Read;
+use lexer::token_type::TokenType;
 
 // 01: type or refusal, position and flags after, and reach; of the value the length, a number's three lengths, and a Boolean, a sign or a carry.
 pub struct Item {
@@ -60,7 +61,7 @@ impl Item {
                 let extra = bit(b);
                 Item {
                     is_refusal: false,
-                    number: BOOLEAN,
+                    number: TokenType::BOOLEAN,
                     position,
                     flags,
                     reach,
@@ -75,7 +76,7 @@ impl Item {
                 let extra = bit(minus);
                 Item {
                     is_refusal: false,
-                    number: NUMERIC,
+                    number: TokenType::NUMERIC,
                     position,
                     flags,
                     reach,
@@ -103,17 +104,6 @@ impl Item {
     }
 }
 
-// The numbers of the types that are known by their value or that end a run.
-const YY_EOF: u32 = 0;
-
-pub const YY_ERROR: u32 = 256;
-
-const YY_UNDEF: u32 = 257;
-
-const NUMERIC: u32 = 287;
-
-const BOOLEAN: u32 = 289;
-
 // A token with so many value cells and nothing beside them.
 fn token(k: u32, position: usize, flags: Flags, reach: usize, length: usize) -> Item
     ensures { λ r. ⌜ r ≡ plain k position flags reach length ⌝ }
@@ -140,13 +130,13 @@ pub fn ends_run(item: Item) -> bool
         return true;
     }
     let n = item.number;
-    if YY_EOF == n {
+    if TokenType::YY_EOF == n {
         return true;
     }
-    if YY_UNDEF == n {
+    if TokenType::YY_UNDEF == n {
         return true;
     }
-    if YY_ERROR == n {
+    if TokenType::YY_ERROR == n {
         return true;
     }
     false

@@ -21,6 +21,7 @@ use crate::item::Item;
 use lexer::flags::Flags;
 use lexer::token::Read;
 use scope::scope::Scope;
+use text::refusal::Refusal;
 
 // Where a run stands: behind the last item, with so many items and value cells, and whether that item ended it.
 pub struct Progress {
@@ -146,7 +147,7 @@ pub fn run(
         store.len(),
         scratch.len(),
     );
-    if 0 < n {
+    if Refusal::NONE < n {
         return Made::Refused(n);
     }
     let at = read_items(
