@@ -76,7 +76,7 @@ module _ (tok : Reader) (facts : IsSound tok) (k : ℕ) (f : Flags) (old : List 
       rw (le-ltb b a ordered, le-ltb (length old) b within, le-ltb maxChars (length old) limit, record-fits tok facts old limit k f behind, eq-eqb (partStart q + length (q .part)) (newLength q) fits)
 
   -- For any sound reader: item count, every field of every item and the used store, as one equation.
-  -- Its second half, that the record is kept items, fresh ones and the moved rest, is the definition of repair (specs/Repair.antt); ThreeParts says it as a theorem.
+  -- Its second half, which kept items, fresh ones and old ones the record is made of, is `three-parts` (ThreeParts), for every accepted request.
   pub record-repaired : length (edited old a b put) ≤ maxChars → let q = requestOf tok k f old a b put behind in repair tok (q .edit) (q .old) (q .part) ≡ pack (runItems tok k f (edited old a b put))
   record-repaired limit′ =
       ap (λ is. pack (repairItems tok edit is (drop (lastKept edit was 0) (edited old a b put)))) (unpacked behind was)

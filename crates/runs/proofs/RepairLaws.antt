@@ -44,7 +44,7 @@ same-flags f g h =
       afterDot = same-bool (f .afterDot) (g .afterDot) (d .1) i;
     }
 
-matched : (e : Edit) (i : Item) (p : ℕ) (f : Flags) → isMatch e i p f ≡ true → (e .to ≤ i .position) × (moved e (i .position) ≡ p) × (i .flags ≡ f)
+pub matched : (e : Edit) (i : Item) (p : ℕ) (f : Flags) → isMatch e i p f ≡ true → (e .to ≤ i .position) × (moved e (i .position) ≡ p) × (i .flags ≡ f)
 matched e i p f h =
     let b = both _ _ h in
     let a = both _ _ (b .0) in

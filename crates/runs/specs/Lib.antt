@@ -2,6 +2,7 @@ pub mod Item
 pub mod Run
 pub mod Edit
 pub mod Repair
+pub mod Parts
 pub mod Record
 pub mod Request
 pub mod Calls
