@@ -1,4 +1,4 @@
-// Reads a rule of at most thirty characters on standard input and prints its items, which it has as structs, a line each: item, type (R and number if refused), position, reach.
+// Reads a rule on standard input and prints its items, which it has as structs on a page, a line each: item, type (R and number if refused), position, reach.
 use lexer::flags::Flags;
 use lexer::token_type::TokenType;
 use records::page;
@@ -6,6 +6,7 @@ use records::page::Page;
 use records::stored::Stored;
 use runs::call::Made;
 use scope::scope::Scope;
+use text::refusal::Refusal;
 use text::utf8::Opening;
 
 fn word(text: &[u8]) {
@@ -50,12 +51,17 @@ fn print_items(p: Page, count: usize) {
     }
 }
 
-fn print_page(p: Page) {
-    let made = p.made;
-    match made {
-        Made::Record(count, _) => print_items(p, count),
-        Made::Refused(n) => refused(n, 0),
+// The items of the first n rows; more than a page holds are 9.
+fn print_rows(rows: &[[u32; 11]], n: usize) {
+    if rows.len() < n {
+        return;
     }
+    let p = page::page_of(&rows[..n]);
+    if p.refusal != Refusal::NONE {
+        refused(p.refusal, 0);
+        return;
+    }
+    print_items(p, n);
 }
 
 // The items of a text.
@@ -68,11 +74,11 @@ fn print_text(text: &[u32]) {
         after_dot: false,
     };
     let slots = [[0u32; 4]; 768];
-    let names = [[0u32; 128]; 768];
-    let mut rows = [[0u32; 11]; 32];
-    let mut store = [0u32; 32];
-    let mut scratch = [0u32; 64];
-    let p = page::run_page(
+    let names = [[0u32; Scope::MAX_NAME]; 768];
+    let mut rows = [[0u32; 11]; 130];
+    let mut store = [0u32; 128];
+    let mut scratch = [0u32; 256];
+    let made = runs::run::run(
         text,
         TokenType::START_EXPRESSION,
         flags,
@@ -83,7 +89,10 @@ fn print_text(text: &[u32]) {
         &mut store,
         &mut scratch,
     );
-    print_page(p);
+    match made {
+        Made::Record(n, _) => print_rows(&rows, n),
+        Made::Refused(k) => refused(k, 0),
+    }
 }
 
 // The items of the first n cells.

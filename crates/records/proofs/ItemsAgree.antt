@@ -1,15 +1,10 @@
--- Demand 3 about the calls over items: what `repair_items` answers and leaves, handed the items that `run_items` left for the old text, is what `run_items` answers and leaves for the new one.
--- The items read back as the rows they were made of (`rows-back`), so that the request is the one of the calls over rows.
-use mathlib.Core.Path.{_≡_, refl, sym, ap, _∙_}
-use mathlib.Core.Bool.{Bool, cond}
+-- Demand 3 about records as structs: the rows of a run, read into items and written back, are the rows that `run` counted, so that the request built of them is the one of `calls-agree`.
+-- Reading and writing undo each other on rows of items (`rows-back`), and a run's rows are such.
+use mathlib.Core.Path.{_≡_, sym, ap, _∙_, subst}
 use mathlib.Core.List.{List, map}
 use Prim.Native.Nat.{ℕ, _≤_}
 use lib.ListN.{length, take, drop}
 use lib.Seq.{take-append-seam}
-use borrow.Author.Tests.{le-ltb}
-use Rattle.reading.specs.Slices.{front}
-use Rattle.text.specs.Limits.{maxChars}
-use Rattle.text.specs.Refusals.{shortSlice}
 use Rattle.scope.specs.Lent.{Lent, scopeOf}
 use Rattle.scope.specs.Keys.{isName}
 use Rattle.lexer.specs.Flags.{Flags}
@@ -21,69 +16,62 @@ use Rattle.runs.specs.Edit.{Edit, edited}
 use Rattle.runs.specs.Repair.{lastKept}
 use Rattle.runs.specs.Record.{Record, unpack}
 use Rattle.runs.specs.Request.{Request}
-use Rattle.runs.specs.Calls.{Room, Answer, made, refused, roomAfter, runRecord, runCall, repairCall}
-use Rattle.runs.specs.Ran.{Ran, answerOf}
-use Rattle.runs.proofs.Demand3.{demand-3}
+use Rattle.runs.specs.Calls.{Room, Answer, made, roomAfter, runCall, runRecord}
+use Rattle.runs.specs.Ran.{Ran}
 use Rattle.repair.specs.Asking.{asked}
-use Rattle.repair.proofs.BothCalls as rows
-use Rattle.repair.proofs.BothCalls.{made-by}
+use Rattle.repair.specs.Repaired.{Repaired}
+use Rattle.repair.proofs.BothCalls as calls
 use Rattle.records.specs.declared.stored.Stored.{Stored}
 use Rattle.records.specs.Stored.{storedOf, rowFrom}
-use Rattle.records.specs.Calls.{cutTo, repairRowsCall, itemsAfter, Leaves}
+use Rattle.records.specs.Items.{Copies, copied}
 use Rattle.records.proofs.StoredLaws.{rows-back}
-use Rattle.records.proofs.ReadBack.{length-map}
+use Rattle.records.proofs.ReadBack.{copied-back}
 
-module _ (lent : Lent) (k : ℕ) (f : Flags) (old : List ℕ) (first : Room) (xs : List Stored) {left : Room} {items : List Stored} {n m : ℕ}
-    (ran : Leaves (runCall lent (cutTo (length xs) first) k f old) first xs (variant.Record n m) left items) (a b : ℕ) (put : List ℕ) where
-  abbrev edit : Edit
-  edit = record { from = a; to = b; size = length put }
-
-  abbrev new : List ℕ
-  new = edited old a b put
-
-  -- The items that `run_items` counted, its store as it left it, and nothing of the new text before the last kept position.
-  abbrev ask : List (List ℕ) → List ℕ → Request
-  ask rs store = asked (length old) rs store a b (length put) (drop (lastKept edit (unpack (record { rows = rs; store = store })) 0) new)
-
-  abbrev pub handed : Request
-  handed = ask (map rowFrom (take n items)) (left .store)
-
-  -- The same run over rows, as many as there were items.
-  abbrev cut : Room
-  cut = cutTo (length xs) first
-
-  over-rows : Ran lent k f old cut (variant.Record n m) (roomAfter (runCall lent cut k f old) cut)
-  over-rows = record { answer = ran .answer; left = refl }
-
+-- `run` has made a record, `read_items` has read its rows, and `write_items` has written the items that it read; none was refused.
+module _ (lent : Lent) (k : ℕ) (f : Flags) (old : List ℕ) (first : Room) {left : Room} {n m : ℕ} (ran : Ran lent k f old first (variant.Record n m) left)
+    {xs items : List Stored} (read : Copies storedOf (take n (left .rows)) xs 0 items) {ys rows : List (List ℕ)} (written : Copies rowFrom (take n items) ys 0 rows) where
   abbrev record-of : Record
   record-of = runRecord (scopeOf lent) k f old
 
-  facts : (length old ≤ maxChars) × (runCall lent cut k f old ≡ made record-of) × (n ≡ length (record-of .rows))
-  facts = made-by lent cut (length old) record-of (ran .answer)
+  facts : (runCall lent first k f old ≡ made record-of) × (n ≡ length (record-of .rows))
+  facts = let x = calls.made-by lent first (length old) record-of (ran .answer) in (x .1, x .2)
 
-  counted : {A : Type 0} (v : List A) → length v ≡ length (record-of .rows) → (o : List A) → take n (front v o) ≡ v
-  counted v e o = ap (λ i. take i (front v o)) (facts .2 ∙ sym e) ∙ take-append-seam v (drop (length v) o)
+  counted : take n (left .rows) ≡ record-of .rows
+  counted =
+      ap (λ (x : Room). take n (x .rows)) (ran .left ∙ ap (λ (x : Answer). roomAfter x first) (facts .0))
+      ∙ ap (λ (i : ℕ). take i (roomAfter (made record-of) first .rows)) (facts .1) ∙ take-append-seam (record-of .rows) _
 
-  same-items : map rowFrom (take n items) ≡ record-of .rows
-  same-items =
-      ap (λ (is : List Stored). map rowFrom (take n is)) (ran .stored ∙ ap (λ (x : Answer). itemsAfter x xs) (facts .1))
-      ∙ ap (map rowFrom) (counted (map storedOf (record-of .rows)) (length-map storedOf (record-of .rows)) xs) ∙ rows-back 0 (runItems (readToken (isName (scopeOf lent))) k f old)
+  all : length (take n (left .rows)) ≡ n
+  all = ap length counted ∙ sym (facts .1)
 
-  same-rows : take n (roomAfter (runCall lent cut k f old) cut .rows) ≡ record-of .rows
-  same-rows = ap (λ (x : Answer). take n (roomAfter x cut .rows)) (facts .1) ∙ counted (record-of .rows) refl (cut .rows)
+  again : map rowFrom (map storedOf (take n (left .rows))) ≡ take n (left .rows)
+  again = ap (λ (rs : List (List ℕ)). map rowFrom (map storedOf rs)) counted ∙ rows-back 0 (runItems (readToken (isName (scopeOf lent))) k f old) ∙ sym counted
 
-  same-store : left .store ≡ roomAfter (runCall lent cut k f old) cut .store
-  same-store = ap (λ (x : Room). x .store) (ran .left) ∙ ap (λ (x : Answer). roomAfter x first .store) (facts .1) ∙ sym (ap (λ (x : Answer). roomAfter x cut .store) (facts .1))
+  pub same-rows : take n rows ≡ take n (left .rows)
+  same-rows =
+      ap (λ (i : ℕ). take i rows) (sym all)
+      ∙ copied-back storedOf rowFrom (take n (left .rows)) again read (subst (λ (i : ℕ). Copies rowFrom (take i items) ys 0 rows) (sym all) written)
 
-  same-request : handed ≡ rows.handed lent k f old cut over-rows a b put
-  same-request = ap (λ (rs : List (List ℕ)). ask rs (left .store)) (same-items ∙ sym same-rows) ∙ ap (ask (take n (roomAfter (runCall lent cut k f old) cut .rows))) same-store
+  module _ (a b : ℕ) (put : List ℕ) where
+    abbrev edit : Edit
+    edit = record { from = a; to = b; size = length put }
 
-  -- The whole answer, every item, and every cell of the three slices, where the old items have enough rows lent beside them.
-  pub items-agree : a ≤ b → b ≤ length old → (room : Room) (ys : List Stored) (oldRows : ℕ) → length (take n items) ≤ oldRows
-      → {r r′ : Made} {after after′ : Room} {zs zs′ : List Stored} → Leaves (repairRowsCall lent (cutTo (length ys) room) oldRows (length (take n items)) handed) room ys r after zs
-      → Leaves (runCall lent (cutTo (length ys) room) k f new) room ys r′ after′ zs′ → (r ≡ r′) × (after ≡ after′) × (zs ≡ zs′)
-  items-agree ordered within room ys oldRows enough p q =
-      let behind = rows.behind lent k f old cut over-rows a b put in
-      let e = ap (λ (t : Bool). cond t (refused shortSlice) (repairCall lent (cutTo (length ys) room) handed)) (le-ltb oldRows (length (take n items)) enough)
-      ∙ ap (repairCall lent (cutTo (length ys) room)) (same-request ∙ rows.same-request lent k f old cut over-rows a b put) ∙ demand-3 lent (cutTo (length ys) room) k f old a b put behind ordered within (facts .0) in
-      (p .answer ∙ ap answerOf e ∙ sym (q .answer), p .left ∙ ap (λ (x : Answer). roomAfter x room) e ∙ sym (q .left), p .stored ∙ ap (λ (x : Answer). itemsAfter x ys) e ∙ sym (q .stored))
+    abbrev new : List ℕ
+    new = edited old a b put
+
+    -- A repair is asked of the rows that were written, with the store as `run` left it.
+    abbrev ask : List (List ℕ) → Request
+    ask rs = asked (length old) rs (left .store) a b (length put) (drop (lastKept edit (unpack (record { rows = rs; store = left .store })) 0) new)
+
+    abbrev pub handed : Request
+    handed = ask (take n rows)
+
+    pub same-request : handed ≡ calls.handed lent k f old first ran a b put
+    same-request = ap ask same-rows
+
+    -- The whole answer, every cell of the three slices, and the items that are read of any of the rows.
+    pub items-agree : a ≤ b → b ≤ length old → (room : Room) {r r′ : Made} {after after′ : Room} → Repaired lent handed room r after → Ran lent k f new room r′ after′
+        → (r ≡ r′) × (after ≡ after′) × ((i : ℕ) (zs : List Stored) → copied storedOf (take i (after .rows)) zs ≡ copied storedOf (take i (after′ .rows)) zs)
+    items-agree ordered within room {r} {after = after} p q =
+        let e = calls.calls-agree lent k f old first ran a b put ordered within room (subst (λ (x : Request). Repaired lent x room r after) same-request p) q in
+        (e .0, e .1, λ i zs. ap (λ (x : Room). copied storedOf (take i (x .rows)) zs) (e .1))

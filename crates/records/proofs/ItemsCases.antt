@@ -1,15 +1,13 @@
--- What is added to the calls over rows, computed: items in the front of those lent, and 9 where items or old rows are too few.
+-- Rows read and items written, computed: they fill the front and the rest stays; too short a slice is 9 and stays.
 use mathlib.Core.Path.{_≡_, refl}
-use mathlib.Core.Bool.{true, false}
+use mathlib.Core.Bool.{false, true}
 use mathlib.Core.List.{List, [], _∷_, _++_}
 use Prim.Native.Nat.{ℕ}
-use Rattle.scope.specs.Lent.{Lent}
+use lib.ListN.{length}
 use Rattle.lexer.specs.declared.flags.Flags.{Flags}
-use Rattle.runs.specs.Request.{Request}
-use Rattle.runs.specs.Calls.{Room, made, refused, hasRoom}
 use Rattle.records.specs.declared.stored.Stored.{Stored}
-use Rattle.records.specs.Stored.{blank}
-use Rattle.records.specs.Calls.{cutTo, repairRowsCall, itemsAfter, packedIn}
+use Rattle.records.specs.Stored.{blank, storedOf, rowFrom}
+use Rattle.records.specs.Items.{refusal, copied}
 
 -- The record of `.5` under `between`: the start item, a number of two digits, and YyEof.
 abbrev between : Flags
@@ -30,16 +28,11 @@ items = start ∷ number ∷ end ∷ []
 abbrev rows : List (List ℕ)
 rows = (0 ∷ 258 ∷ 0 ∷ 2 ∷ 0 ∷ 0 ∷ 0 ∷ 0 ∷ 0 ∷ 0 ∷ 0 ∷ []) ∷ (0 ∷ 287 ∷ 2 ∷ 2 ∷ 12 ∷ 0 ∷ 2 ∷ 1 ∷ 1 ∷ 0 ∷ 0 ∷ []) ∷ (0 ∷ 0 ∷ 2 ∷ 2 ∷ 14 ∷ 2 ∷ 0 ∷ 0 ∷ 0 ∷ 0 ∷ 0 ∷ []) ∷ []
 
--- Four rows, and room for two characters.
-abbrev room : Room
-room = record { rows = [] ∷ [] ∷ [] ∷ [] ∷ []; store = 0 ∷ 0 ∷ []; scratch = 0 ∷ 0 ∷ 0 ∷ 0 ∷ [] }
-
 pub items-cases :
-    (itemsAfter (made (record { rows = rows; store = 0x30 ∷ 0x35 ∷ [] })) (blank ∷ blank ∷ blank ∷ blank ∷ []) ≡ items ++ (blank ∷ []))
-    × (itemsAfter (refused 9) (number ∷ []) ≡ number ∷ [])
-    × (hasRoom 2 (cutTo 4 room) ≡ true)
-    × (hasRoom 2 (cutTo 3 room) ≡ false)
-    × (packedIn items (room .rows) ≡ rows ++ ([] ∷ []))
-    × (packedIn items ([] ∷ [] ∷ []) ≡ [] ∷ [] ∷ [])
-    × ((lent : Lent) (q : Request) → repairRowsCall lent room 2 3 q ≡ refused 9)
-items-cases = (refl, refl, refl, refl, refl, refl, λ lent q. refl)
+    (refusal (length rows) 3 ≡ 0)
+    × (copied storedOf rows (blank ∷ blank ∷ blank ∷ blank ∷ []) ≡ items ++ (blank ∷ []))
+    × (refusal (length rows) 2 ≡ 9)
+    × (copied storedOf rows (number ∷ blank ∷ []) ≡ number ∷ blank ∷ [])
+    × (copied rowFrom items ([] ∷ [] ∷ [] ∷ [] ∷ []) ≡ rows ++ ([] ∷ []))
+    × (copied rowFrom items ([] ∷ [] ∷ []) ≡ [] ∷ [] ∷ [])
+items-cases = (refl, refl, refl, refl, refl, refl)

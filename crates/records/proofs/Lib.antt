@@ -1,11 +1,9 @@
 pub mod StoredLaws
 pub mod StoredType
-pub mod RowsLaws
 pub mod Filling
 pub mod Lending
 pub mod Transfer
+pub mod CopyAll
 pub mod ReadBack
-pub mod Values
-pub mod CallsLaws
 pub mod ItemsAgree
 pub mod ItemsCases

@@ -1,36 +1,40 @@
--- What `pack` writes reads back by `unpack` as the same items, and what `unpack` read from rows of items `pack` writes again: element by element, as a stored item and its row undo each other.
-use mathlib.Core.Path.{_≡_, refl, sym, ap, _∙_}
-use mathlib.Core.Bool.{true}
+-- What was written reads back as the same items, and rows of items, once read, are written as the same rows: what a call copied stands in the front (`copied-taken`), and a stored item and its row undo each other.
+use mathlib.Core.Path.{_≡_, refl, sym, ap, _∙_, subst}
+use mathlib.Core.Bool.{Bool, true, false, cond, false≢true}
 use mathlib.Core.List.{List, [], _∷_, map}
-use Prim.Native.Nat.{ℕ, suc, _≤_}
+use Prim.Native.Nat.{ℕ, suc}
+use lib.Dec.{eqb, ltb}
 use lib.ListN.{length, take}
-use lib.Seq.{take-append-seam, length-take-le}
+use lib.Seq.{take-append-seam}
 use Rattle.reading.specs.Slices.{front}
-use Rattle.runs.specs.Request.{isRow}
+use Rattle.text.specs.Refusals.{shortSlice}
 use Rattle.records.specs.declared.stored.Stored.{Stored}
 use Rattle.records.specs.Stored.{storedOf, rowFrom}
-use Rattle.records.proofs.StoredLaws.{all-back, row-back}
-use Rattle.records.proofs.Filling.{filled}
+use Rattle.records.specs.Items.{Copies}
+use Rattle.records.proofs.StoredLaws.{all-back}
 
 module _ {A B : Type 0} (h : A → B) where
   pub length-map : (xs : List A) → length (map h xs) ≡ length xs
   length-map [] = refl
   length-map (x ∷ xs) = ap suc (length-map xs)
 
-  pub take-filled : (n : ℕ) (xs : List A) (ys : List B) → n ≤ length xs → take n (filled h n xs ys) ≡ map h (take n xs)
-  take-filled n xs ys l = ap (λ k. take k (filled h n xs ys)) (sym (length-map (take n xs) ∙ length-take-le n xs l)) ∙ take-append-seam (map h (take n xs)) _
+  -- A call that was not refused.
+  copied-front : (xs : List A) (ys : List B) {zs : List B} → Copies h xs ys 0 zs → zs ≡ front (map h xs) ys
+  copied-front xs ys c = c .left ∙ go (ltb (length ys) (length xs)) (c .answer)
+    where
+      go : (b : Bool) → 0 ≡ cond b shortSlice 0 → cond b ys (front (map h xs) ys) ≡ front (map h xs) ys
+      go true e = absurd (false≢true (ap (λ (r : ℕ). eqb r shortSlice) e))
+      go false e = refl
 
-pub packed-unpacked : (n : ℕ) (items others : List Stored) (rows : List (List ℕ)) → n ≤ length items → filled storedOf n (filled rowFrom n items rows) others ≡ front (take n items) others
-packed-unpacked n items others rows l = ap (λ rs. front (map storedOf rs) others) (take-filled rowFrom n items rows l) ∙ ap (λ is. front is others) (all-back (take n items))
+  pub copied-taken : (xs : List A) {ys zs : List B} → Copies h xs ys 0 zs → take (length xs) zs ≡ map h xs
+  copied-taken xs {ys} c = ap (take (length xs)) (copied-front xs ys c) ∙ ap (λ (n : ℕ). take n (front (map h xs) ys)) (sym (length-map xs)) ∙ take-append-seam (map h xs) _
 
--- All rows of a list are items'.
-pub data Rows : List (List ℕ) → Type 0 where
-  none : Rows []
-  more : {r : List ℕ} {rs : List (List ℕ)} → length r ≡ 11 → isRow r ≡ true → Rows rs → Rows (r ∷ rs)
+module _ {A B : Type 0} (f : A → B) (g : B → A) (xs : List A) (back : map g (map f xs) ≡ xs) where
+  pub copied-back : {ys zs : List B} {us vs : List A} → Copies f xs ys 0 zs → Copies g (take (length xs) zs) us 0 vs → take (length xs) vs ≡ xs
+  copied-back {us = us} {vs} there again =
+      let given = subst (λ (bs : List B). Copies g bs us 0 vs) (copied-taken f xs there) again in
+      ap (λ (n : ℕ). take n vs) (sym (length-map f xs)) ∙ copied-taken g (map f xs) given ∙ back
 
-rows-again : {rs : List (List ℕ)} → Rows rs → map rowFrom (map storedOf rs) ≡ rs
-rows-again none = refl
-rows-again (more {r} {rs} eleven is-row more-rows) = ap (λ x. x ∷ map rowFrom (map storedOf rs)) (row-back r eleven is-row) ∙ ap (λ xs. r ∷ xs) (rows-again more-rows)
-
-pub unpacked-packed : (n : ℕ) (rows others : List (List ℕ)) (items : List Stored) → n ≤ length rows → Rows (take n rows) → filled rowFrom n (filled storedOf n rows items) others ≡ front (take n rows) others
-unpacked-packed n rows others items l all = ap (λ is. front (map rowFrom is) others) (take-filled storedOf n rows items l) ∙ ap (λ rs. front rs others) (rows-again all)
+-- Any items, written and read.
+pub items-back : (is : List Stored) {ys rows : List (List ℕ)} {us vs : List Stored} → Copies rowFrom is ys 0 rows → Copies storedOf (take (length is) rows) us 0 vs → take (length is) vs ≡ is
+items-back is = copied-back rowFrom storedOf is (all-back is)

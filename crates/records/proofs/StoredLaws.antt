@@ -1,21 +1,17 @@
--- A stored item and its row undo each other: flags and their bits do (`bits-back`), and a row of an item is its eleven places (`row-again`).
-use mathlib.Core.Path.{_≡_, refl, sym, ap, _∙_}
+-- A stored item and its row undo each other, as flags and their bits do (`bits-back`).
+use mathlib.Core.Path.{_≡_, refl, ap, _∙_}
 use mathlib.Core.Bool.{Bool, true, false}
 use mathlib.Core.List.{List, [], _∷_, map}
 use Prim.Native.Nat.{ℕ, _+_}
-use native.Mathlib.Omega.{arith}
 use lib.Dec.{eqb}
 use mir.Val.{boolByte}
-use lib.ListN.{length, getD, take, drop, length-take, length-drop}
-use Rattle.reading.specs.Slices.{zeros}
-use Rattle.naming.proofs.PrefixLaws.{length-zeros}
+use lib.ListN.{length, getD}
 use Rattle.lexer.specs.Flags as spec
 use Rattle.lexer.specs.FlagsOf.{flagsOf}
 use Rattle.lexer.specs.declared.flags.Flags.{Flags}
 use Rattle.runs.specs.Item.{Item, bit}
 use Rattle.runs.specs.Record.{flagBits, bitFlags, refusedAt, numberAt, positionAt, flagsAt, reachAt, startAt, lengthAt, beforeAt, afterAt, exponentAt, extraAt, rowOf, rowsFrom}
-use Rattle.runs.specs.Request.{isRow}
-use Rattle.runs.proofs.RecordLaws.{bits-back, row-again}
+use Rattle.runs.proofs.RecordLaws.{bits-back}
 use Rattle.records.specs.declared.stored.Stored.{Stored}
 use Rattle.records.specs.Stored.{flagsFrom, storedOf, rowFrom}
 
@@ -65,14 +61,7 @@ pub all-back : (is : List Stored) → map storedOf (map rowFrom is) ≡ is
 all-back [] = refl
 all-back (i ∷ is) = ap (λ j. j ∷ map storedOf (map rowFrom is)) (stored-back i) ∙ ap (λ js. i ∷ js) (all-back is)
 
--- A row that is an item's is written again as it was read.
-pub row-back : (r : List ℕ) → length r ≡ 11 → isRow r ≡ true → rowFrom (storedOf r) ≡ r
-row-back r eleven h =
-    let n = getD r startAt 0 + getD r lengthAt 0 in
-    let size : length (take (getD r lengthAt 0) (drop (getD r startAt 0) (zeros n))) ≡ getD r lengthAt 0 = simp (length-take, length-drop, length-zeros) (omega arith) in
-    ap (λ m. rowWith (eqb (getD r refusedAt 0) 1) (bitFlags (getD r flagsAt 0)) m r) (sym size) ∙ row-again r eleven (zeros n) h (omega (arith, length-zeros n))
-
--- So is the row of any item of a run.
+-- The row of an item of a run is written again as it was read.
 row-of-item : (start : ℕ) (i : Item) → rowFrom (storedOf (rowOf start i)) ≡ rowOf start i
 row-of-item start i =
     ap (λ b. rowWith b (bitFlags (flagBits (i .flags))) (length (i .value)) (rowOf start i)) (bit-back (i .isRefusal)) ∙ ap (λ f. rowWith (i .isRefusal) f (length (i .value)) (rowOf start i)) (bits-back (i .flags))

@@ -61,6 +61,9 @@ place-fits n i room l = omega (arith, room .1)
 pub none-is : Is F.the-row (blank .flags) (LL.val F.the-type F′.the-laws (blank .flags) ∷ [])
 none-is = LL.owes F.the-type F′.the-laws (blank .flags) (refl, (refl, (refl, (refl, (refl, tt)))))
 
+pub none-typed : {M : Type 1} (𝓤 : URA M) (H : Heap 𝓤) (A : Atoms 𝓤) (W : Given 𝓤 H A) → Holds (hasTy F′.mir (LL.val F.the-type F′.the-laws (blank .flags))) × WT (LL.val F.the-type F′.the-laws (blank .flags))
+none-typed 𝓤 H A W = LL.lawful F.the-type F′.the-laws 𝓤 H A W .typed (blank .flags) _ none-is .0
+
 pub blank-is : Is R blank (vals blank)
 blank-is = LL.owes T.the-type T′.the-laws blank
     (refl, ((refl, lit< tt), ((refl, lit< tt), (none-is, ((refl, lit< tt), ((refl, lit< tt), ((refl, lit< tt), ((refl, lit< tt), ((refl, lit< tt), ((refl, lit< tt), ((refl, lit< tt), tt)))))))))))

@@ -83,6 +83,9 @@ module _ (S D : RattleType) (τ : Ty) (d : S .Denot) (f : S .Denot → Stored) (
       abbrev pub Writer : Contract 𝓤
       Writer = tripleOf 𝓤 H A (writer .signature) (closing 𝓤 H A writer writes)
 
+      abbrev pub Loop : Contract 𝓤
+      Loop = tripleOf 𝓤 H A (transfer .signature) (closing 𝓤 H A transfer transfers)
+
   -- The code, calling the reader k₁ and the writer k₂.
   abbrev word : Ty
   word = tyInt w64

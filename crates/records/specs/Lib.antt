@@ -1,2 +1,2 @@
 pub mod Stored
-pub mod Calls
+pub mod Items

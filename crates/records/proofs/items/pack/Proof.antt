@@ -11,8 +11,8 @@ use Rattle.records.proofs.StoredType.{R}
 use Rattle.records.proofs.Transfer.{Reader, Writer, transfer-meets}
 use Rattle.records.proofs.items.item_at.Symbol as item-at
 use Rattle.records.proofs.items.item_at.Met as item-at-thm
-use Rattle.records.proofs.rows.write_row.Symbol as write-row
-use Rattle.records.proofs.rows.write_row.Met as write-row-thm
+use Rattle.records.proofs.items.write_row.Symbol as write-row
+use Rattle.records.proofs.items.write_row.Met as write-row-thm
 use Rattle.records.proofs.items.pack.Key.{name as #pack}
 use Rattle.records.proofs.items.pack as f
 use Rattle.records.proofs.items.pack.Statement as stated
@@ -25,4 +25,4 @@ pack-spec 𝓤 H 𝓜 𝓖 𝓡 =
     (tables 𝓤 H 𝓜 𝓡 code.env .C) (tables 𝓤 H 𝓜 𝓡 code.env .Λ) #pack code.function (code.unfolded 𝓤 H 𝓜 𝓡)
     (transfer-meets R (Array u32 11) (tyArray (tyInt w32) 11) blank (λ (x : Stored). x) rowFrom 𝓤 H (𝓖 .A) (givenOf 𝓤 H 𝓜 𝓖) item-at.name write-row.name (tablesOf 𝓤 H 𝓜 (tables 𝓤 H 𝓜 𝓡 code.env))
     (cited 𝓤 H (Reader R (Array u32 11) (tyArray (tyInt w32) 11) blank (λ (x : Stored). x) rowFrom 𝓤 H (𝓖 .A)) 𝓜 𝓡 code.env item-at.name item-at.routine code.calls-records·items·item-at (item-at-thm.met 𝓤 H 𝓜 𝓖 𝓡))
-    (cited 𝓤 H (Writer R (Array u32 11) (tyArray (tyInt w32) 11) blank (λ (x : Stored). x) rowFrom 𝓤 H (𝓖 .A)) 𝓜 𝓡 code.env write-row.name write-row.routine code.calls-records·rows·write-row (write-row-thm.met 𝓤 H 𝓜 𝓖 𝓡)))
+    (cited 𝓤 H (Writer R (Array u32 11) (tyArray (tyInt w32) 11) blank (λ (x : Stored). x) rowFrom 𝓤 H (𝓖 .A)) 𝓜 𝓡 code.env write-row.name write-row.routine code.calls-records·items·write-row (write-row-thm.met 𝓤 H 𝓜 𝓖 𝓡)))

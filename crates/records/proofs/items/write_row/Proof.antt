@@ -2,10 +2,10 @@
 use mathlib.Core.Path.{ap}
 use lib.ListN.{set}
 use borrow.Author.Needs.{needs}
-use Rattle.records.proofs.rows.write_row.Statement.{statement}
-use Rattle.records.proofs.rows.write_row.Tie as tie
-use Rattle.records.proofs.rows.write_row.Reads as reads
-use Rattle.records.proofs.rows.write_row.Lts as lts
+use Rattle.records.proofs.items.write_row.Statement.{statement}
+use Rattle.records.proofs.items.write_row.Tie as tie
+use Rattle.records.proofs.items.write_row.Reads as reads
+use Rattle.records.proofs.items.write_row.Lts as lts
 use Rattle.records.proofs.stored.row_of.Reads as row-of-reads
 
 row-of-requires : tie.Need-row-of-requires
