@@ -22,8 +22,9 @@
  *
  * Shapes. Each call looks at these first, before the order given at the call; all of them are
  * refusal 9: an answer that is not of FEEL_ANSWER_SIZE numbers (nothing is written to it), then,
- * with place 0, a scope that is not of FEEL_SCOPE_SIZE numbers, then a lexer that is not one
- * (feel_next_token), opening flags above FEEL_ALL_FLAGS (feel_run).
+ * with place 0, numbers that are no lexer (feel_next_token; see enum feel_lexer), opening flags
+ * above FEEL_ALL_FLAGS (feel_run). A scope that is not of FEEL_SCOPE_SIZE numbers is no shape but a
+ * broken scope: 10, where the call's order has it.
  */
 #ifndef FEEL_LEXER_H
 #define FEEL_LEXER_H
@@ -100,7 +101,11 @@ enum feel_entry { FEEL_ENTRY_DEPTH = 0, FEEL_ENTRY_KIND = 1, FEEL_ENTRY_START = 
 enum feel_kind { FEEL_KIND_VARIABLE = 0, FEEL_KIND_CONTEXT = 1 };
 
 /* Of a lexer. A new one is { 0, 0, 1, start type }; a start type other than the nine FEEL_TOKEN_START_...
- * gives FEEL_TOKEN_YY_ERROR. Setting a flag is adding its bit. */
+ * gives FEEL_TOKEN_YY_ERROR. Setting a flag is adding its bit.
+ * No lexer are: more or fewer than FEEL_LEXER_SIZE numbers; flags above FEEL_ALL_FLAGS; a third
+ * number other than 0 and 1; a start type of 2^32 or more; a start type other than 0 where none is
+ * due, such as { p, f, 0, FEEL_TOKEN_START_EXPRESSION }. Any position is a lexer's; beyond the text
+ * it is 12. */
 enum feel_lexer {
     FEEL_LEXER_POSITION = 0,
     FEEL_LEXER_FLAGS = 1,
@@ -149,7 +154,7 @@ enum feel_refusal {
     FEEL_REFUSAL_BROKEN_SCOPE = 10,      /* an entry list, a name or the lent scope is broken */
     FEEL_REFUSAL_OVER_LIMIT = 11,        /* the scope would exceed a limit afterwards */
     FEEL_REFUSAL_BEYOND_TEXT = 12,       /* the position lies beyond the text */
-    FEEL_REFUSAL_BROKEN_REQUEST = 13     /* edit, old record and text part do not fit together */
+    FEEL_REFUSAL_BROKEN_REQUEST = 13     /* edit, old record and text part do not fit together, or a row is no item's */
 };
 
 /* Token types; the numbers are those of the grammar's tables. */
@@ -237,12 +242,14 @@ uint32_t feel_open(const uint8_t *bytes, size_t bytes_len, uint32_t *cells, size
  * . / - ' + and *: `row width-gutter`. Names that end in a symbol or have two in a row may need
  * another spelling (docs/DIFFERENCES.md, M1).
  *
- * All of these refuse, in this order: 10, then 11, with place 0; feel_scope_opened neither. 10 is a
+ * All of these refuse, in this order: 10, then 11, with place 0. 10 is a scope that is not of
+ * FEEL_SCOPE_SIZE numbers or that no call leaves; slots or names of fewer than FEEL_SLOTS rows; a
  * name over 128 characters or with a cell that is no Unicode scalar value; an entry list with a
- * depth above 7, another kind, no parent or a name outside `cells`; slots or names of fewer than
- * FEEL_SLOTS rows; a scope that no call leaves. 11 is counted after what is replaced has gone. */
+ * depth above 7, another kind, no parent or a name outside `cells`. 11 is counted after what is
+ * replaced has gone. */
 
-/* Opens a scope: one empty context, no parsed names. The rows beside it may hold anything. */
+/* Opens a scope: one empty context, no parsed names. The rows beside it may hold anything, and so
+ * may its three numbers: 10 is for more or fewer, 11 for nothing. */
 uint32_t feel_scope_opened(size_t *scope, size_t scope_len, size_t *answer, size_t answer_len);
 
 /* Pushes an empty context. */
@@ -328,7 +335,9 @@ uint32_t feel_run(const uint32_t *text, size_t text_len, uint32_t start_type, ui
  * counted. old_store: its values; cells behind them are not read.
  * part: the new text from feel_part_start(old_rows, old_rows_len, from) to its end.
  * rows, store, scratch: as for a run of the new text. They are not those of the old record.
- * Refuses, in this order: 13; 1; 10; 9; with place 0. */
+ * Refuses, in this order: 13; 1; 10; 9; with place 0. 13 is an edit outside the old text, or one
+ * that ends before it begins; rows that no run leaves for a text of that length, a row of no item
+ * among them; a part that does not end where the new text does. */
 uint32_t feel_repair(size_t old_length, FEEL_READ uint32_t (*old_rows)[FEEL_ROW_CELLS], size_t old_rows_len,
                      const uint32_t *old_store, size_t old_store_len,
                      size_t from, size_t to, size_t size, const uint32_t *part, size_t part_len,

@@ -1,5 +1,5 @@
 -- The exported calls: what each returns and leaves in its slices. 0 is returned where nothing is refused.
--- Refused first, with 9 and place 0: an answer, a scope or a lexer that is not of its form; what the calls below refuse comes behind.
+-- Refused first, with 9 and place 0: an answer or a lexer that is not of its form; what the calls below refuse comes behind, a scope of another size as any broken one.
 use mathlib.Core.Path.{_≡_}
 use mathlib.Core.Bool.{Bool, true, false, cond, _&&_}
 use mathlib.Core.List.{List, [], _∷_}
@@ -7,7 +7,7 @@ use Prim.Native.Nat.{ℕ, _+_, _≤_}
 use lib.Dec.{eqb, leb}
 use lib.ListN.{length}
 use Rattle.reading.specs.Slices.{front, zeros}
-use Rattle.text.specs.Refusals.{shortSlice}
+use Rattle.text.specs.Refusals.{shortSlice, brokenScope}
 use Rattle.text.specs.Utf8 as utf8
 use Rattle.text.specs.declared.utf8.Opening.{Opening as Answered}
 use Rattle.text.specs.declared.utf8.Opening.the-variants.{Opened, Refused as RefusedAt}
@@ -28,22 +28,22 @@ use Rattle.runs.specs.Record.{bitFlags}
 use Rattle.runs.specs.Request.{Request}
 use Rattle.runs.specs.Calls as runs
 use Rattle.runs.specs.Calls.{Room, roomAfter, runCall, repairCall}
-use Rattle.feel_lexer.specs.Numbers.{answerSize, answer, placed, counted, scopeSize, lentOf, stateAt, lexerNumbers, allFlags, isLexer}
+use Rattle.feel_lexer.specs.Numbers.{answerSize, answer, placed, counted, scopeSize, isScope, lentOf, stateAt, lexerNumbers, allFlags, isLexer}
+
+abbrev pub isAnswer : List ℕ → Bool
+isAnswer ns = eqb (length ns) answerSize
 
 -- An answer that is not of its size stays as it is.
 abbrev pub told : List ℕ → List ℕ → List ℕ
-told row ns = cond (eqb (length ns) answerSize) row ns
+told row ns = cond (isAnswer ns) row ns
 
-abbrev pub hasSizes : List ℕ → ℕ → Bool
-hasSizes ns scope = eqb (length ns) answerSize && eqb scope scopeSize
-
--- Both sizes were checked, and what else must hold: 0 if all is right. An answer of its size is set to place 0.
-pub record Checked (more : Bool) (ns : List ℕ) (scope r : ℕ) (ns′ : List ℕ) : Type 0 where
-  pub number : r ≡ cond (hasSizes ns scope && more) 0 shortSlice
+-- The answer's size was checked, and what else must hold: 0 if all is right. An answer of its size is set to place 0.
+pub record Checked (more : Bool) (ns : List ℕ) (r : ℕ) (ns′ : List ℕ) : Type 0 where
+  pub number : r ≡ cond (isAnswer ns && more) 0 shortSlice
   pub answer : ns′ ≡ told (placed 0 0) ns
 
-abbrev pub Sized : List ℕ → ℕ → ℕ → List ℕ → Type 0
-Sized ns scope r ns′ = Checked true ns scope r ns′
+abbrev pub Sized : List ℕ → ℕ → List ℕ → Type 0
+Sized ns r ns′ = Checked true ns r ns′
 
 -- Opening.
 pub record Opening : Type 0 where
@@ -66,7 +66,7 @@ openAnswer (RefusedAt n p) = placed p 0
 
 abbrev pub feelOpen : List ℕ → List ℕ → List ℕ → Opening
 feelOpen bytes cells ns =
-    cond (eqb (length ns) answerSize) (opening (utf8.openBytes bytes (length cells)) cells) (record { number = shortSlice; cells = cells; answer = ns })
+    cond (isAnswer ns) (opening (utf8.openBytes bytes (length cells)) cells) (record { number = shortSlice; cells = cells; answer = ns })
 
 -- What the code of a scope call answers, as a number; and the scope's numbers behind it.
 abbrev pub codedNumber : Changed → ℕ
@@ -76,6 +76,11 @@ codedNumber (Refused n) = n
 abbrev pub scopeNumbers : Changed → List ℕ → List ℕ
 scopeNumbers (Done s) ns = s .contexts ∷ s .entries ∷ s .parsed ∷ []
 scopeNumbers (Refused n) ns = ns
+
+-- Where there is a scope to write there are three numbers for it.
+abbrev pub HasPlace : Changed → List ℕ → Type 0
+HasPlace (Done s) ns = length ns ≡ scopeSize
+HasPlace (Refused n) ns = Unit {0}
 
 -- A scope call, by what the model answers.
 abbrev pub changedNumber : calls.Changed → ℕ
@@ -88,7 +93,7 @@ Leaves (calls.changed s) ns slots names ns′ slots′ names′ = (scopeOf (lent
 Leaves (calls.refused n) ns slots names ns′ slots′ names′ = (ns′ ≡ ns) × (slots′ ≡ slots) × (names′ ≡ names)
 
 abbrev pub scopeCall : List ℕ → List ℕ → List (List ℕ) → List (List ℕ) → (ParsingScope → calls.Changed) → calls.Changed
-scopeCall ns scope slots names call = cond (hasSizes ns (length scope)) (onScope (lentOf scope slots names) call) (calls.refused shortSlice)
+scopeCall ns scope slots names call = cond (isAnswer ns) (onScope (lentOf scope slots names) call) (calls.refused shortSlice)
 
 pub record ScopeCall (call : ParsingScope → calls.Changed) (ns scope : List ℕ) (slots names : List (List ℕ)) (r : ℕ) (ns′ scope′ : List ℕ) (slots′ names′ : List (List ℕ)) : Type 0 where
   pub number : r ≡ changedNumber (scopeCall ns scope slots names call)
@@ -102,8 +107,8 @@ Opens true scope scope′ = ((slots names : List (List ℕ)) → scopeOf (lentOf
     × ((slots names : List (List ℕ)) → maxEntries + maxParsed ≤ length slots → maxEntries + maxParsed ≤ length names → isBroken (lentOf scope′ slots names) ≡ false)
 
 pub record ScopeOpened (ns scope : List ℕ) (r : ℕ) (ns′ scope′ : List ℕ) : Type 0 where
-  pub number : r ≡ cond (hasSizes ns (length scope)) 0 shortSlice
-  pub left : Opens (hasSizes ns (length scope)) scope scope′
+  pub number : r ≡ cond (isAnswer ns) (cond (isScope scope) 0 brokenScope) shortSlice
+  pub left : Opens (isAnswer ns && isScope scope) scope scope′
   pub answer : ns′ ≡ told (placed 0 0) ns
 
 -- The token call.
@@ -129,7 +134,7 @@ tokenOf c = record { number = refusalNumber (c .read); lexer = lexerNumbers (c .
 
 abbrev pub feelNextToken : List ℕ → List ℕ → List ℕ → List (List ℕ) → List (List ℕ) → List ℕ → List ℕ → List ℕ → Token
 feelNextToken lexer text scope slots names output scratch ns =
-    cond (hasSizes ns (length scope) && isLexer lexer) (tokenOf (nextToken (lentOf scope slots names) (stateAt lexer) text output scratch))
+    cond (isAnswer ns && isLexer lexer) (tokenOf (nextToken (lentOf scope slots names) (stateAt lexer) text output scratch))
     (record { number = shortSlice; lexer = lexer; output = output; scratch = zeros (length scratch); answer = told (placed 0 0) ns })
 
 -- The same of the code's item.
@@ -163,8 +168,8 @@ notRecorded room ns = record { number = shortSlice; room = roomAfter (runs.refus
 
 abbrev pub feelRun : List ℕ → ℕ → ℕ → List ℕ → List (List ℕ) → List (List ℕ) → Room → List ℕ → Recorded
 feelRun text start flags scope slots names room ns =
-    cond (hasSizes ns (length scope) && leb flags allFlags) (recorded (runCall (lentOf scope slots names) room start (bitFlags flags) text) room) (notRecorded room ns)
+    cond (isAnswer ns && leb flags allFlags) (recorded (runCall (lentOf scope slots names) room start (bitFlags flags) text) room) (notRecorded room ns)
 
 abbrev pub feelRepair : Request → List ℕ → List (List ℕ) → List (List ℕ) → Room → List ℕ → Recorded
 feelRepair request scope slots names room ns =
-    cond (hasSizes ns (length scope)) (recorded (repairCall (lentOf scope slots names) room request) room) (notRecorded room ns)
+    cond (isAnswer ns) (recorded (repairCall (lentOf scope slots names) room request) room) (notRecorded room ns)

@@ -2,10 +2,11 @@
 use mathlib.Core.Bool.{Bool, cond, _&&_}
 use mathlib.Core.Option.{none, some}
 use mathlib.Core.List.{List, [], _∷_}
-use Prim.Native.Nat.{ℕ}
+use Prim.Native.Nat.{ℕ, suc}
 use lib.Dec.{eqb, leb, ltb}
 use lib.ListN.{length, getD}
 use Rattle.reading.specs.Cells.{maybe}
+use Rattle.scope.specs.Limits.{maxContexts}
 use Rattle.scope.specs.Lent.{Lent}
 use Rattle.scope.specs.Answers.{lent}
 use Rattle.scope.specs.declared.scope.Scope.{Scope}
@@ -27,13 +28,19 @@ placed place carry = answer place 0 0 0 0 0 carry 0
 abbrev pub counted : ℕ → ℕ → List ℕ
 counted length items = answer 0 0 length 0 0 0 0 items
 
--- The counts of a scope, with the rows that are lent beside them.
+-- The counts of a scope are three numbers. More or fewer stand for counts that no scope has, so every call refuses them as a broken scope.
 abbrev pub scopeSize : ℕ
 scopeSize = 3
 
-abbrev pub countsOf : List ℕ → Scope
-countsOf ns = record { contexts = getD ns 0 0; entries = getD ns 1 0; parsed = getD ns 2 0 }
+abbrev pub isScope : List ℕ → Bool
+isScope ns = eqb (length ns) scopeSize
 
+abbrev pub countsOf : List ℕ → Scope
+countsOf ns =
+    cond (isScope ns) (record { contexts = getD ns 0 0; entries = getD ns 1 0; parsed = getD ns 2 0 })
+    (record { contexts = suc maxContexts; entries = 0; parsed = 0 })
+
+-- With the rows that are lent beside them.
 abbrev pub lentOf : List ℕ → List (List ℕ) → List (List ℕ) → Lent
 lentOf ns slots names = lent (countsOf ns) slots names
 

@@ -4,6 +4,7 @@ ghost use Prim.Native.Nat.{_≤_};
 ghost use lib.ListN.{length};
 ghost use Rattle.feel_lexer.specs.Numbers as spec;
 ghost use Rattle.feel_lexer.specs.Exported.{Sized};
+use text::refusal::Refusal;
 
 pub struct Answer {}
 
@@ -41,30 +42,27 @@ pub fn put(numbers: &mut [usize], row: &[usize])
 }
 
 // A place, with the carry of a refusal.
-pub fn placed(place: usize, carry: usize) -> [usize; 8]
+pub fn placed(place: usize, carry: usize) -> [usize; Answer::SIZE]
     ensures { λ r. ⌜ r ≡ spec.placed place carry ⌝ }
 {
     [place, 0, 0, 0, 0, 0, carry, 0]
 }
 
 // So many characters or value cells, and items.
-pub fn counted(length: usize, items: usize) -> [usize; 8]
+pub fn counted(length: usize, items: usize) -> [usize; Answer::SIZE]
     ensures { λ r. ⌜ r ≡ spec.counted length items ⌝ }
 {
     [0, 0, length, 0, 0, 0, 0, items]
 }
 
-// The refusal of an answer and of so many numbers for a scope; 0 is none. An answer of its size is set to place 0.
-pub fn sizes(answer: &mut [usize], scope: usize) -> u32
-    ensures { λ r. ⌜ Sized (now (answer .entry)) scope r (now (answer .exit)) ⌝ }
+// The refusal of an answer that is not of its size; 0 is none. One of its size is set to place 0.
+pub fn sized(answer: &mut [usize]) -> u32
+    ensures { λ r. ⌜ Sized (now (answer .entry)) r (now (answer .exit)) ⌝ }
 {
     if answer.len() != Answer::SIZE {
-        return 9;
+        return Refusal::SHORT_SLICE;
     }
     let row = placed(0, 0);
     put(answer, &row);
-    if scope != 3 {
-        return 9;
-    }
-    0
+    Refusal::NONE
 }

@@ -5,6 +5,7 @@ ghost use Rattle.feel_lexer.specs.Numbers.{answerSize};
 ghost use Rattle.feel_lexer.specs.Exported as spec;
 use crate::answer;
 use crate::answer::Answer;
+use text::refusal::Refusal;
 use text::utf8::Opening;
 
 // Writes what opening answered: how many characters there are, or the place of a refusal.
@@ -16,7 +17,7 @@ fn after(opening: Opening, answer: &mut [usize]) -> u32
         Opening::Opened(t) => {
             let row = answer::counted(t.chars, 0);
             answer::put(answer, &row);
-            0
+            Refusal::NONE
         }
         Opening::Refused(n, place) => {
             let row = answer::placed(place, 0);
@@ -33,7 +34,7 @@ pub extern "C" fn feel_open(bytes: &[u8], cells: &mut [u32], answer: &mut [usize
     ensures { λ r. ⌜ spec.feelOpen (now (bytes .entry)) (now (cells .entry)) (now (answer .entry)) ≡ record { number = r; cells = now (cells .exit); answer = now (answer .exit) } ⌝ }
 {
     if answer.len() != Answer::SIZE {
-        return 9;
+        return Refusal::SHORT_SLICE;
     }
     let opening = text::utf8::open_bytes(bytes, cells);
     after(opening, answer)

@@ -7,9 +7,12 @@ ghost use Rattle.feel_lexer.specs.Numbers.{placed, allFlags};
 ghost use Rattle.feel_lexer.specs.Exported as spec;
 use crate::answer;
 use crate::state;
+use lexer::flags::Flags;
 use runs::call;
 use runs::call::Made;
 use runs::item;
+use scope::scope::Scope;
+use text::refusal::Refusal;
 
 // Writes how many items and value cells a record has; an answer at place 0 stays so where none was made.
 fn after(made: Made, answer: &mut [usize]) -> u32
@@ -20,24 +23,24 @@ fn after(made: Made, answer: &mut [usize]) -> u32
         Made::Record(items, cells) => {
             let row = answer::counted(cells, items);
             answer::put(answer, &row);
-            0
+            Refusal::NONE
         }
         Made::Refused(n) => n,
     }
 }
 
-// The refusal of an answer, a scope of so many numbers and opening flags; 0 is none. An answer of its size is set to place 0.
-fn shapes(flags: u32, scope: usize, answer: &mut [usize]) -> u32
-    ensures { λ r. ⌜ spec.Checked (leb flags allFlags) (now (answer .entry)) scope r (now (answer .exit)) ⌝ }
+// The refusal of an answer and opening flags; 0 is none. An answer of its size is set to place 0.
+fn shapes(flags: u32, answer: &mut [usize]) -> u32
+    ensures { λ r. ⌜ spec.Checked (leb flags allFlags) (now (answer .entry)) r (now (answer .exit)) ⌝ }
 {
-    let n = answer::sizes(answer, scope);
+    let n = answer::sized(answer);
     if 0 < n {
         return n;
     }
-    if flags <= 31 {
-        return 0;
+    if flags <= Flags::ALL {
+        return Refusal::NONE;
     }
-    9
+    Refusal::SHORT_SLICE
 }
 
 // The record of a run: its rows and values fill the fronts of rows and store.
@@ -49,7 +52,7 @@ pub extern "C" fn feel_run(
     flags: u32,
     scope: &[usize],
     slots: &[[u32; 4]],
-    names: &[[u32; 128]],
+    names: &[[u32; Scope::MAX_NAME]],
     rows: &mut [[u32; 11]],
     store: &mut [u32],
     scratch: &mut [u32],
@@ -59,7 +62,7 @@ pub extern "C" fn feel_run(
         (record { rows = now (rows .entry); store = now (store .entry); scratch = now (scratch .entry) }) (now (answer .entry))
         ≡ record { number = r; room = record { rows = now (rows .exit); store = now (store .exit); scratch = now (scratch .exit) }; answer = now (answer .exit) } ⌝ }
 {
-    let n = shapes(flags, scope.len(), answer);
+    let n = shapes(flags, answer);
     if 0 < n {
         call::clear(scratch);
         return n;
@@ -83,7 +86,7 @@ pub extern "C" fn feel_repair(
     part: &[u32],
     scope: &[usize],
     slots: &[[u32; 4]],
-    names: &[[u32; 128]],
+    names: &[[u32; Scope::MAX_NAME]],
     rows: &mut [[u32; 11]],
     store: &mut [u32],
     scratch: &mut [u32],
@@ -93,7 +96,7 @@ pub extern "C" fn feel_repair(
         (record { rows = now (rows .entry); store = now (store .entry); scratch = now (scratch .entry) }) (now (answer .entry))
         ≡ record { number = r; room = record { rows = now (rows .exit); store = now (store .exit); scratch = now (scratch .exit) }; answer = now (answer .exit) } ⌝ }
 {
-    let n = answer::sizes(answer, scope.len());
+    let n = answer::sized(answer);
     if 0 < n {
         call::clear(scratch);
         return n;

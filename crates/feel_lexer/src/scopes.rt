@@ -1,24 +1,23 @@
 // The scope calls. Each leaves the answer at place 0.
 ghost use mathlib.Core.Path.{_≡_};
-ghost use lib.ListN.{length};
 ghost use Rattle.scope.specs.Calls as spec;
 ghost use Rattle.scope.specs.Lent.{pushList, setContextList};
-ghost use Rattle.feel_lexer.specs.Numbers.{scopeSize};
-ghost use Rattle.feel_lexer.specs.Exported.{codedNumber, scopeNumbers, ScopeCall, ScopeOpened};
+ghost use Rattle.feel_lexer.specs.Exported.{HasPlace, codedNumber, scopeNumbers, ScopeCall, ScopeOpened};
 use crate::answer;
 use crate::state;
 use scope::scope::Changed;
 use scope::scope::Scope;
+use text::refusal::Refusal;
 
 // Writes the scope that a call gave; a refused one leaves it.
 fn after(r: Changed, scope: &mut [usize]) -> u32
-    requires { ⌜ length (now scope) ≡ scopeSize ⌝ }
+    requires { ⌜ HasPlace r (now scope) ⌝ }
     ensures { λ n. ⌜ (n ≡ codedNumber r) × (now (scope .exit) ≡ scopeNumbers r (now (scope .entry))) ⌝ }
 {
     match r {
         Changed::Done(s) => {
             state::put_scope(scope, s);
-            0
+            Refusal::NONE
         }
         Changed::Refused(n) => n,
     }
@@ -30,12 +29,15 @@ fn after(r: Changed, scope: &mut [usize]) -> u32
 pub extern "C" fn feel_scope_opened(scope: &mut [usize], answer: &mut [usize]) -> u32
     ensures { λ r. ⌜ ScopeOpened (now (answer .entry)) (now (scope .entry)) r (now (answer .exit)) (now (scope .exit)) ⌝ }
 {
-    let n = answer::sizes(answer, scope.len());
+    let n = answer::sized(answer);
     if 0 < n {
         return n;
     }
+    if scope.len() != state::SCOPE_SIZE {
+        return Refusal::BROKEN_SCOPE;
+    }
     state::put_scope(scope, Scope::opened());
-    0
+    Refusal::NONE
 }
 
 // Pushes an empty context.
@@ -44,12 +46,12 @@ pub extern "C" fn feel_scope_opened(scope: &mut [usize], answer: &mut [usize]) -
 pub extern "C" fn feel_scope_push_default(
     scope: &mut [usize],
     slots: &[[u32; 4]],
-    names: &[[u32; 128]],
+    names: &[[u32; Scope::MAX_NAME]],
     answer: &mut [usize],
 ) -> u32
     ensures { λ r. ⌜ ScopeCall (spec.pushDefault) (now (answer .entry)) (now (scope .entry)) (now (slots .entry)) (now (names .entry)) r (now (answer .exit)) (now (scope .exit)) (now (slots .entry)) (now (names .entry)) ⌝ }
 {
-    let n = answer::sizes(answer, scope.len());
+    let n = answer::sized(answer);
     if 0 < n {
         return n;
     }
@@ -64,14 +66,14 @@ pub extern "C" fn feel_scope_push_default(
 pub extern "C" fn feel_scope_push(
     scope: &mut [usize],
     slots: &mut [[u32; 4]],
-    names: &mut [[u32; 128]],
+    names: &mut [[u32; Scope::MAX_NAME]],
     list: &[[u32; 4]],
     cells: &[u32],
     answer: &mut [usize],
 ) -> u32
     ensures { λ r. ⌜ ScopeCall (pushList (now (cells .entry)) (now (list .entry))) (now (answer .entry)) (now (scope .entry)) (now (slots .entry)) (now (names .entry)) r (now (answer .exit)) (now (scope .exit)) (now (slots .exit)) (now (names .exit)) ⌝ }
 {
-    let n = answer::sizes(answer, scope.len());
+    let n = answer::sized(answer);
     if 0 < n {
         return n;
     }
@@ -86,12 +88,12 @@ pub extern "C" fn feel_scope_push(
 pub extern "C" fn feel_scope_pop(
     scope: &mut [usize],
     slots: &[[u32; 4]],
-    names: &[[u32; 128]],
+    names: &[[u32; Scope::MAX_NAME]],
     answer: &mut [usize],
 ) -> u32
     ensures { λ r. ⌜ ScopeCall (spec.pop) (now (answer .entry)) (now (scope .entry)) (now (slots .entry)) (now (names .entry)) r (now (answer .exit)) (now (scope .exit)) (now (slots .entry)) (now (names .entry)) ⌝ }
 {
-    let n = answer::sizes(answer, scope.len());
+    let n = answer::sized(answer);
     if 0 < n {
         return n;
     }
@@ -106,13 +108,13 @@ pub extern "C" fn feel_scope_pop(
 pub extern "C" fn feel_scope_set_entry_name(
     scope: &mut [usize],
     slots: &mut [[u32; 4]],
-    names: &mut [[u32; 128]],
+    names: &mut [[u32; Scope::MAX_NAME]],
     name: &[u32],
     answer: &mut [usize],
 ) -> u32
     ensures { λ r. ⌜ ScopeCall (spec.setEntryName (now (name .entry))) (now (answer .entry)) (now (scope .entry)) (now (slots .entry)) (now (names .entry)) r (now (answer .exit)) (now (scope .exit)) (now (slots .exit)) (now (names .exit)) ⌝ }
 {
-    let n = answer::sizes(answer, scope.len());
+    let n = answer::sized(answer);
     if 0 < n {
         return n;
     }
@@ -127,7 +129,7 @@ pub extern "C" fn feel_scope_set_entry_name(
 pub extern "C" fn feel_scope_set_context(
     scope: &mut [usize],
     slots: &mut [[u32; 4]],
-    names: &mut [[u32; 128]],
+    names: &mut [[u32; Scope::MAX_NAME]],
     name: &[u32],
     list: &[[u32; 4]],
     cells: &[u32],
@@ -135,7 +137,7 @@ pub extern "C" fn feel_scope_set_context(
 ) -> u32
     ensures { λ r. ⌜ ScopeCall (setContextList (now (name .entry)) (now (cells .entry)) (now (list .entry))) (now (answer .entry)) (now (scope .entry)) (now (slots .entry)) (now (names .entry)) r (now (answer .exit)) (now (scope .exit)) (now (slots .exit)) (now (names .exit)) ⌝ }
 {
-    let n = answer::sizes(answer, scope.len());
+    let n = answer::sized(answer);
     if 0 < n {
         return n;
     }
@@ -150,13 +152,13 @@ pub extern "C" fn feel_scope_set_context(
 pub extern "C" fn feel_scope_add_parsed_name(
     scope: &mut [usize],
     slots: &mut [[u32; 4]],
-    names: &mut [[u32; 128]],
+    names: &mut [[u32; Scope::MAX_NAME]],
     name: &[u32],
     answer: &mut [usize],
 ) -> u32
     ensures { λ r. ⌜ ScopeCall (spec.addParsedName (now (name .entry))) (now (answer .entry)) (now (scope .entry)) (now (slots .entry)) (now (names .entry)) r (now (answer .exit)) (now (scope .exit)) (now (slots .exit)) (now (names .exit)) ⌝ }
 {
-    let n = answer::sizes(answer, scope.len());
+    let n = answer::sized(answer);
     if 0 < n {
         return n;
     }

@@ -6,6 +6,7 @@ ghost use lib.ListN.{length};
 ghost use Rattle.tokens.specs.CalledBy.{stateOf};
 ghost use Rattle.feel_lexer.specs.Numbers as spec;
 use crate::answer;
+use lexer::flags::Flags;
 use runs::item;
 use scope::scope::Scope;
 use tokens::call::Lexer;
@@ -13,11 +14,20 @@ use tokens::call::Lexer;
 // Position, flags, whether a start token is due (0 or 1), and of which type (0 where none is).
 const LEXER_SIZE: usize = 4;
 
-// The counts of a scope: contexts, entries, parsed names.
+// Contexts, entries, parsed names.
+pub const SCOPE_SIZE: usize = 3;
+
+// The counts of a scope. More or fewer numbers are taken for more contexts than there may be, which every call refuses.
 pub fn scope_of(numbers: &[usize]) -> Scope
-    requires { ⌜ length (now numbers) ≡ spec.scopeSize ⌝ }
     ensures { λ r. ⌜ r ≡ spec.countsOf (now (numbers .entry)) ⌝ }
 {
+    if numbers.len() != SCOPE_SIZE {
+        return Scope {
+            contexts: Scope::MAX_CONTEXTS + 1,
+            entries: 0,
+            parsed: 0,
+        };
+    }
     Scope {
         contexts: numbers[0],
         entries: numbers[1],
@@ -50,7 +60,7 @@ pub fn is_lexer(numbers: &[usize]) -> bool
     if numbers.len() != LEXER_SIZE {
         return false;
     }
-    if 31 < numbers[1] {
+    if (Flags::ALL as usize) < numbers[1] {
         return false;
     }
     if 4_294_967_295 < numbers[3] {

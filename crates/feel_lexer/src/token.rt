@@ -8,19 +8,21 @@ use crate::state;
 use runs::call;
 use runs::cell;
 use runs::item::Item;
+use scope::scope::Scope;
+use text::refusal::Refusal;
 
-// The refusal of an answer, a scope of so many numbers and a lexer; 0 is none. An answer of its size is set to place 0.
-fn shapes(lexer: &[usize], scope: usize, answer: &mut [usize]) -> u32
-    ensures { λ r. ⌜ spec.Checked (isLexer (now (lexer .entry))) (now (answer .entry)) scope r (now (answer .exit)) ⌝ }
+// The refusal of an answer and a lexer; 0 is none. An answer of its size is set to place 0.
+fn shapes(lexer: &[usize], answer: &mut [usize]) -> u32
+    ensures { λ r. ⌜ spec.Checked (isLexer (now (lexer .entry))) (now (answer .entry)) r (now (answer .exit)) ⌝ }
 {
-    let n = answer::sizes(answer, scope);
+    let n = answer::sized(answer);
     if 0 < n {
         return n;
     }
     if state::is_lexer(lexer) {
-        return 0;
+        return Refusal::NONE;
     }
-    9
+    Refusal::SHORT_SLICE
 }
 
 // Writes the answer of an item, its token or its refusal; the number of a refusal is given back, or 0.
@@ -46,7 +48,7 @@ fn put_item(i: Item, answer: &mut [usize]) -> u32
         0,
     ];
     answer::put(answer, &row);
-    0
+    Refusal::NONE
 }
 
 // The next token of a text: its value fills the output's front, and the lexer's numbers are those of the state after it.
@@ -57,7 +59,7 @@ pub extern "C" fn feel_next_token(
     text: &[u32],
     scope: &[usize],
     slots: &[[u32; 4]],
-    names: &[[u32; 128]],
+    names: &[[u32; Scope::MAX_NAME]],
     out: &mut [u32],
     scratch: &mut [u32],
     answer: &mut [usize],
@@ -65,7 +67,7 @@ pub extern "C" fn feel_next_token(
     ensures { λ r. ⌜ spec.feelNextToken (now (lexer .entry)) (now (text .entry)) (now (scope .entry)) (now (slots .entry)) (now (names .entry)) (now (out .entry)) (now (scratch .entry)) (now (answer .entry))
         ≡ record { number = r; lexer = now (lexer .exit); output = now (out .exit); scratch = now (scratch .exit); answer = now (answer .exit) } ⌝ }
 {
-    let n = shapes(lexer, scope.len(), answer);
+    let n = shapes(lexer, answer);
     if 0 < n {
         call::clear(scratch);
         return n;

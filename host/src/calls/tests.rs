@@ -47,7 +47,6 @@ fn opening_without_room_is_9() {
 
 #[test]
 fn shapes_are_9() {
-    assert_eq!(scope_opened(&mut [0; 2]).err(), Some(Refusal::ShortSlice));
     let (mut out, mut scratch) = ([7; 1], [7; 2]);
     for lexer in [
         &mut [0, 0, 1][..],
@@ -93,6 +92,8 @@ fn long_texts_are_1() {
 fn broken_scopes_are_10() {
     let answer = run_into(&cells("a"), &scope(767), [0, 0, 0]);
     assert_eq!(refused(answer), Refusal::BrokenScope);
+    let opened = scope_opened(&mut [0; 2]).err();
+    assert_eq!(opened, Some(Refusal::BrokenScope));
     let mut s = scope(768);
     s.counts = [33, 0, 0];
     assert_eq!(scope_pop(&mut s).err(), Some(Refusal::BrokenScope));

@@ -1,6 +1,6 @@
 -- The forms, then what the call below answers.
 use native.Mathlib.Omega.{arith}
-use Rattle.feel_lexer.proofs.SizeLaws.{all-checked, not-checked, scope-sized, answer-placed}
+use Rattle.feel_lexer.proofs.SizeLaws.{all-checked, not-checked, answer-placed}
 use Rattle.feel_lexer.proofs.RecordLaws.{unrecorded, run-recorded}
 use borrow.Author.Needs.{needs}
 use Rattle.feel_lexer.proofs.record.feel_run.Statement.{statement}
@@ -30,7 +30,7 @@ returns : tie.Need-returns
 returns c = let a = c .before .before .before .before .before .before .before .before .before .before .before .before .before .before .args in let u = not-checked (c .before .before .before .before .before .before .before .shapes .ensures) (omega arith) in unrecorded (a .rows .now) (a .store .now) (a .scratch .now) (a .answer .now) (u .0) (u .1) (c .before .before .before .before .before .before .before .shapes .ensures .answer) (c .before .before .clear .ensures) _
 
 scope-of-requires : tie.Need-scope-of-requires
-scope-of-requires c κs = scope-sized (c .before .before .before .shapes .ensures) (omega arith)
+scope-of-requires c κs = search needs
 
 bit-flags-requires : tie.Need-bit-flags-requires
 bit-flags-requires c κs = search needs

@@ -1,5 +1,6 @@
 -- By cases of the answer.
 use mathlib.Core.Path.{_∙_}
+use Rattle.feel_lexer.proofs.ScopeLaws.{place-of}
 use borrow.Author.Needs.{needs}
 use Rattle.feel_lexer.proofs.scopes.after.Statement.{statement}
 use Rattle.feel_lexer.proofs.scopes.after.Tie as tie
@@ -11,7 +12,7 @@ enum-known-r : tie.Need-enum-known-r
 enum-known-r c = search needs
 
 put-scope-requires : tie.Need-put-scope-requires
-put-scope-requires c κs = search needs
+put-scope-requires c κs = place-of (c .before .before .before .before .before .args .scope .now) (c .before .before .r .given .1) (c .before .before .before .before .before .pre)
 
 enum-known-r-2 : tie.Need-enum-known-r-2
 enum-known-r-2 c = search needs

@@ -11,6 +11,9 @@ use Rattle.feel_lexer.proofs.state.is_pending.Reads as is-pending-reads
 returns : tie.Need-returns
 returns c = lexer-missized (c .before .before .args .numbers .now) (c .if1 .taken)
 
+cast-if2 : tie.Need-cast-if2
+cast-if2 c = search needs
+
 shared-slice-read-if2 : tie.Need-shared-slice-read-if2
 shared-slice-read-if2 c = search needs
 
@@ -40,6 +43,7 @@ is-lexer-spec =
     tie.close
     (tie.spec
     returns
+    cast-if2
     shared-slice-read-if2
     returns-2
     shared-slice-read-if3

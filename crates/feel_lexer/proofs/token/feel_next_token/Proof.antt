@@ -1,6 +1,6 @@
 -- The forms, then what the token call answers.
 use native.Mathlib.Omega.{arith}
-use Rattle.feel_lexer.proofs.SizeLaws.{all-checked, not-checked, more-checked, answer-sized, scope-sized, answer-still}
+use Rattle.feel_lexer.proofs.SizeLaws.{all-checked, not-checked, more-checked, answer-sized, answer-still}
 use Rattle.feel_lexer.proofs.StateLaws.{lexer-form}
 use Rattle.feel_lexer.proofs.TokenLaws.{token-untaken, value-short, token-taken}
 use borrow.Author.Needs.{needs}
@@ -39,7 +39,7 @@ lexer-of-requires : tie.Need-lexer-of-requires
 lexer-of-requires c κs = more-checked (c .before .before .before .before .shapes .ensures) (omega arith)
 
 scope-of-requires : tie.Need-scope-of-requires
-scope-of-requires c κs = scope-sized (c .before .before .before .before .before .shapes .ensures) (omega arith)
+scope-of-requires c κs = search needs
 
 next-token-requires : tie.Need-next-token-requires
 next-token-requires c κs = search needs

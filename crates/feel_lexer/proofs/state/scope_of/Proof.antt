@@ -1,0 +1,39 @@
+-- By whether there are three numbers.
+use native.Mathlib.Omega.{arith}
+use lib.ListN.{length}
+use borrow.Author.Tests.{eq-eqb, ne-eqb}
+use Rattle.feel_lexer.specs.Numbers.{scopeSize}
+use borrow.Author.Needs.{needs}
+use Rattle.feel_lexer.proofs.state.scope_of.Statement.{statement}
+use Rattle.feel_lexer.proofs.state.scope_of.Tie as tie
+use Rattle.feel_lexer.proofs.state.scope_of.Reads as reads
+use Rattle.feel_lexer.proofs.state.scope_of.Lts as lts
+
+add-t4 : tie.Need-add-t4
+add-t4 c = search needs
+
+returns : tie.Need-returns
+returns c = rw (ne-eqb (length (c .before .args .numbers .now)) scopeSize (c .if1 .taken))
+
+shared-slice-read-t2 : tie.Need-shared-slice-read-t2
+shared-slice-read-t2 c = search needs
+
+shared-slice-read-t7 : tie.Need-shared-slice-read-t7
+shared-slice-read-t7 c = search needs
+
+shared-slice-read-t9 : tie.Need-shared-slice-read-t9
+shared-slice-read-t9 c = search needs
+
+returns-2 : tie.Need-returns-2
+returns-2 c = rw (eq-eqb (length (c .before .before .before .before .args .numbers .now)) scopeSize (omega arith))
+
+pub scope-of-spec : {M : Type 1} → statement M
+scope-of-spec =
+    tie.close
+    (tie.spec
+    add-t4
+    returns
+    shared-slice-read-t2
+    shared-slice-read-t7
+    shared-slice-read-t9
+    returns-2)
