@@ -4,3 +4,4 @@ pub mod OpenLaws
 pub mod ScopeLaws
 pub mod TokenLaws
 pub mod RecordLaws
+pub mod ExportedPair

@@ -20,6 +20,9 @@ answerSize = 8
 abbrev pub answer : ℕ → ℕ → ℕ → ℕ → ℕ → ℕ → ℕ → ℕ → List ℕ
 answer place type length before after exponent extra items = place ∷ type ∷ length ∷ before ∷ after ∷ exponent ∷ extra ∷ items ∷ []
 
+abbrev pub itemsAt : ℕ
+itemsAt = 7
+
 -- A place, with the carry of a refusal.
 abbrev pub placed : ℕ → ℕ → List ℕ
 placed place carry = answer place 0 0 0 0 0 carry 0
