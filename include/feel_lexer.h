@@ -25,6 +25,9 @@
  * with place 0, numbers that are no lexer (feel_next_token; see enum feel_lexer), opening flags
  * above FEEL_ALL_FLAGS (feel_run). A scope that is not of FEEL_SCOPE_SIZE numbers is no shape but a
  * broken scope: 10, where the call's order has it.
+ *
+ * Version. Sizes and places below may change from one version to the next. A program that was
+ * compiled with the header of another version than the archive's does not link.
  */
 #ifndef FEEL_LEXER_H
 #define FEEL_LEXER_H
@@ -35,6 +38,25 @@
 #ifdef __cplusplus
 extern "C" {
 #endif
+
+/* ---- Version ---- */
+
+#define FEEL_LEXER_VERSION 1
+
+/* Returns the version of the archive, which is part of its name. */
+uint32_t feel_lexer_version_1(void);
+
+/* Every file that includes this header refers to the function of the header's version, whatever
+ * else it calls: from here, before main. GCC and Clang have the attribute. */
+#define FEEL_LEXER_JOINED(name, version) name##version
+#define FEEL_LEXER_OF(version) FEEL_LEXER_JOINED(feel_lexer_version_, version)
+
+__attribute__((constructor)) static void feel_lexer_linked(void)
+{
+    (void)FEEL_LEXER_OF(FEEL_LEXER_VERSION)();
+}
+
+/* ---- Slices ---- */
 
 /* An array and its count, as two arguments of a call. */
 #define FEEL_WHOLE(array) (array), (sizeof(array) / sizeof((array)[0]))

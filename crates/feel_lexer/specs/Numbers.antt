@@ -13,6 +13,10 @@ use Rattle.scope.specs.declared.scope.Scope.{Scope}
 use Rattle.lexer.specs.Lexer.{State, state}
 use Rattle.runs.specs.Record.{flagBits, bitFlags}
 
+-- One more with each change of a size, a place or a number's meaning below.
+abbrev pub version : ℕ
+version = 1
+
 -- The places of an answer: place of the refusal or token, token type, length of a text, value or store, a number's three lengths, the extra number of an item, items.
 abbrev pub answerSize : ℕ
 answerSize = 8
