@@ -21,17 +21,17 @@ pub const SCOPE_SIZE: usize = 3;
 pub fn scope_of(numbers: &[usize]) -> Scope
     ensures { λ r. ⌜ r ≡ spec.countsOf (now (numbers .entry)) ⌝ }
 {
-    if numbers.len() != SCOPE_SIZE {
+    if numbers.len() == SCOPE_SIZE {
         return Scope {
-            contexts: Scope::MAX_CONTEXTS + 1,
-            entries: 0,
-            parsed: 0,
+            contexts: numbers[0],
+            entries: numbers[1],
+            parsed: numbers[2],
         };
     }
     Scope {
-        contexts: numbers[0],
-        entries: numbers[1],
-        parsed: numbers[2],
+        contexts: Scope::MAX_CONTEXTS + 1,
+        entries: 0,
+        parsed: 0,
     }
 }
 

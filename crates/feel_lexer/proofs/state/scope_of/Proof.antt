@@ -9,14 +9,8 @@ use Rattle.feel_lexer.proofs.state.scope_of.Tie as tie
 use Rattle.feel_lexer.proofs.state.scope_of.Reads as reads
 use Rattle.feel_lexer.proofs.state.scope_of.Lts as lts
 
-add-t4 : tie.Need-add-t4
-add-t4 c = search needs
-
-returns : tie.Need-returns
-returns c = rw (ne-eqb (length (c .before .args .numbers .now)) scopeSize (c .if1 .taken))
-
-shared-slice-read-t2 : tie.Need-shared-slice-read-t2
-shared-slice-read-t2 c = search needs
+shared-slice-read-t5 : tie.Need-shared-slice-read-t5
+shared-slice-read-t5 c = search needs
 
 shared-slice-read-t7 : tie.Need-shared-slice-read-t7
 shared-slice-read-t7 c = search needs
@@ -24,16 +18,22 @@ shared-slice-read-t7 c = search needs
 shared-slice-read-t9 : tie.Need-shared-slice-read-t9
 shared-slice-read-t9 c = search needs
 
+returns : tie.Need-returns
+returns c = rw (eq-eqb (length (c .before .before .before .before .args .numbers .now)) scopeSize (omega arith))
+
+add-t2 : tie.Need-add-t2
+add-t2 c = search needs
+
 returns-2 : tie.Need-returns-2
-returns-2 c = rw (eq-eqb (length (c .before .before .before .before .args .numbers .now)) scopeSize (omega arith))
+returns-2 c = rw (ne-eqb (length (c .before .args .numbers .now)) scopeSize (c .if1 .left))
 
 pub scope-of-spec : {M : Type 1} → statement M
 scope-of-spec =
     tie.close
     (tie.spec
-    add-t4
-    returns
-    shared-slice-read-t2
+    shared-slice-read-t5
     shared-slice-read-t7
     shared-slice-read-t9
+    returns
+    add-t2
     returns-2)
