@@ -15,6 +15,7 @@ pub mod Numerals
 pub mod Pieces
 pub mod Places
 pub mod FlagsOf
+pub mod Answered
 pub mod Taken
 pub mod Fit
 pub mod Shown

@@ -1,34 +1,23 @@
 -- The code's item of a reading has the numbers of the definitions' item.
 use mathlib.Core.Path.{_≡_, refl, sym, ap, _∙_, subst}
 use mathlib.Core.Bool.{Bool, true}
-use mathlib.Core.List.{List, _++_}
 use Prim.Native.Nat.{ℕ, _+_, _-_, _≤_}
 use native.Mathlib.Omega.{arith}
 use borrow.Author.Tests.{eqb-true}
-use lib.ListN.{length, length-append}
 use Rattle.text.specs.Limits.{maxChars}
-use Rattle.lexer.specs.Read.{Read, token, refused, nothing, truth, number, chars, cellsOf, isLast, ends, hasForm}
+use Rattle.lexer.specs.Read.{Read, token, refused, nothing, truth, number, chars, isLast, ends, hasForm}
 use Rattle.lexer.specs.FlagsOf.{flagsOf}
+use Rattle.lexer.specs.Answered.{cellCount}
 use Rattle.lexer.specs.Taken.{coded}
 use Rattle.lexer.specs.TokenType
 use Rattle.lexer.specs.declared.flags.Flags.{Flags}
 use Rattle.lexer.specs.declared.token.Read.{Read as Answer}
+use Rattle.lexer.proofs.AnsweredLaws.{three}
 use Rattle.lexer.specs.declared.token.Read.the-variants.{Plain, Boolean, Numeric, Chars, Refused}
 use Rattle.runs.specs.declared.item.Item.{Item}
 use Rattle.runs.specs.Item.{item}
 use Rattle.runs.specs.Record.{rowOf}
-use Rattle.runs.specs.Coded.{cellCount, itemFrom, Small, rowFrom}
-
--- A number's cells are its three lengths' sum.
-three : (before after exponent : List ℕ) → length (before ++ after ++ exponent) ≡ length before + length after + length exponent
-three before after exponent = rw (length-append, length-append)
-
-pub cell-count : (read : Read) → cellCount (coded read) ≡ length (cellsOf read)
-cell-count (token k nothing) = refl
-cell-count (token k (truth b)) = refl
-cell-count (token k (number before after minus exponent)) = sym (three before after exponent)
-cell-count (token k (chars cs)) = refl
-cell-count (refused n c) = refl
+use Rattle.runs.specs.Coded.{itemFrom, Small, rowFrom}
 
 pub number-within : {r : Answer} {before after exponent : ℕ} {minus : Bool} → r ≡ Numeric before after minus exponent → cellCount r ≤ maxChars → before + after + exponent ≤ maxChars
 number-within e h = rw e at h

@@ -18,7 +18,9 @@ use Rattle.lexer.specs.Flags as spec
 use Rattle.lexer.specs.Read.{outcome, cellsOf, isLast}
 use Rattle.lexer.specs.FlagsOf.{flagsOf}
 use Rattle.lexer.specs.Lexer.{startTypes}
+use Rattle.lexer.specs.Answered.{cellCount}
 use Rattle.lexer.specs.Taken.{coded, Taken}
+use Rattle.lexer.proofs.AnsweredLaws.{cell-count}
 use Rattle.lexer.specs.Token.{readToken}
 use Rattle.lexer.specs.TokenType
 use Rattle.lexer.specs.declared.flags.Flags.{Flags}
@@ -29,9 +31,9 @@ use Rattle.runs.specs.declared.item.Item.{Item as Coded}
 use Rattle.runs.specs.declared.run.Progress.{Progress}
 use Rattle.runs.specs.Item.{Item, item, endsRun}
 use Rattle.runs.specs.Run.{Reader, placed, itemAt, items, startItem, runItems}
-use Rattle.runs.specs.Coded.{cellCount, itemFrom, Small, rowFrom}
+use Rattle.runs.specs.Coded.{itemFrom, Small, rowFrom}
 use Rattle.runs.specs.Ran.{Next, Stands}
-use Rattle.runs.proofs.CodedLaws.{cell-count, row-is, ends-is, size-of, small-of}
+use Rattle.runs.proofs.CodedLaws.{row-is, ends-is, size-of, small-of}
 use Rattle.runs.proofs.BehindLaws.{lay-long, behind-one, behind-more}
 
 module _ {k n : ℕ} {f : Flags} {c : Coded} {rows rows′ : List (List ℕ)} {ended : Bool} (isStart : n ≡ cond (isOneOf startTypes k) k TokenType.YyError) (isItem : c ≡ itemFrom (Plain n) 0 f 0) where

@@ -1,6 +1,7 @@
 -- The token call: the host's refusals in their order, a start token, or the token reader from the position on.
 use mathlib.Core.Path.{_≡_, refl, sym, ap, _∙_, subst}
 use mathlib.Core.Bool.{Bool, true, false, cond, _||_}
+use mathlib.Core.Option.{Option, none, some}
 use mathlib.Core.List.{List, append-nil}
 use Prim.Native.Nat.{ℕ, _+_, _-_, _*_, _≤_, _<_}
 use native.Mathlib.Omega.{arith}
@@ -8,7 +9,8 @@ use lib.Dec.{ltb, leb}
 use borrow.Author.Tests.{lt-ltb, le-ltb, leb-true, ltb-false}
 use lib.ListN.{length, take, drop, length-drop, drop-of-length-le}
 use lib.Seq.{take-all}
-use Rattle.reading.specs.Cells.{isOneOf}
+use Rattle.reading.specs.Look.{run}
+use Rattle.reading.specs.Cells.{isOneOf, maybe}
 use Rattle.reading.specs.Slices.{zeros, Wrote}
 use Rattle.reading.proofs.Test.{by-test, every, below}
 use Rattle.text.specs.Limits.{maxChars}
@@ -16,9 +18,9 @@ use Rattle.text.specs.Refusals.{tooLong, shortSlice, brokenScope, beyondText}
 use Rattle.scope.specs.Entries.{ParsingScope}
 use Rattle.scope.specs.Keys.{isName}
 use Rattle.scope.specs.Lent.{Lent, isBroken, scopeOf}
-use Rattle.lexer.specs.Read.{token}
 use Rattle.lexer.specs.Lexer as spec
 use Rattle.lexer.specs.Lexer.{State, startTypes, step, nextToken}
+use Rattle.lexer.specs.Token.{readToken}
 use Rattle.lexer.specs.TokenType
 use Rattle.lexer.specs.FlagsOf.{flagsOf}
 use Rattle.lexer.specs.Fit.{Clear}
@@ -30,6 +32,7 @@ use Rattle.lexer.specs.declared.token.Outcome.{Outcome}
 use Rattle.lexer.specs.declared.token.Read.the-variants.{Plain, Refused}
 use Rattle.naming.proofs.PrefixLaws.{length-zeros}
 use Rattle.lexer.proofs.TokenFacts.{sound}
+use Rattle.lexer.proofs.AnsweredLaws.{Typed, formed-typed, says-coded}
 
 -- The nine start types are in a row.
 not-start : (k : ℕ) → (isOneOf startTypes k ≡ true → ⊥) → TokenType.YyError ≡ cond (isOneOf startTypes k) k TokenType.YyError
@@ -139,12 +142,20 @@ module _ (lent : Lent) (s : State) (t output scratch : List ℕ) where
       go false false false true p = absurd (omega arith)
       go false false false false p = refl
 
+-- Of a text within the limits a Boolean and a number are read with their own types; a start token has no value.
+step-typed : (lent : Lent) (s : State) (t : List ℕ) → length t ≤ maxChars → Typed (step (scopeOf lent) s t .read)
+step-typed lent s t limit = go (s .pending)
+  where
+    go : (k : Option ℕ) → Typed ((maybe k (spec.advanced (s .position) ((run (drop (s .position) t) (readToken (isName (scopeOf lent)) (s .flags))) .answer)) (λ k. record { read = spec.startRead k; next = spec.state (s .position) (s .flags) none })) .read)
+    go (some k) = tt
+    go none = formed-typed ((run (drop (s .position) t) (readToken (isName (scopeOf lent)) (s .flags))) .answer .read) (sound (isName (scopeOf lent)) (s .flags) (drop (s .position) t) (rw length-drop (omega arith)) .formed)
+
 module _ (lent : Lent) (l : Lexer) (t o scratch : List ℕ) {scratch′ : List ℕ} (clean : scratch′ ≡ zeros (length scratch)) {n : ℕ} (p : n ≡ refusalOf lent (l .position) (length t) (length o) (length scratch)) where
   pub call-refused : 0 < n → CalledBy (nextToken lent (stateOf l) t o scratch) (record { read = Refused n 0; place = l .position; next = l }) o scratch′
-  call-refused h = subst (λ c. CalledBy c (record { read = Refused n 0; place = l .position; next = l }) o scratch′) (sym (refused-by lent (stateOf l) t o scratch n h p)) (record { read = refl; place = refl; next = refl; left = refl; clean = clean })
+  call-refused h = subst (λ c. CalledBy c (record { read = Refused n 0; place = l .position; next = l }) o scratch′) (sym (refused-by lent (stateOf l) t o scratch n h p)) (record { read = record { means = refl; size = refl }; place = refl; next = refl; left = refl; clean = clean })
 
   pub call-made : n ≡ 0 → {r : Called} {o′ : List ℕ} → Stepped (step (scopeOf lent) (stateOf l) t) o r o′ → CalledBy (nextToken lent (stateOf l) t o scratch) r o′ scratch′
-  call-made e {r} {o′} s = subst (λ c. CalledBy c r o′ scratch′) (sym (called-by lent (stateOf l) t o scratch (sym e ∙ p))) (record { read = s .read; place = s .place; next = s .next; left = s .left; clean = clean })
+  call-made e {r} {o′} s = subst (λ c. CalledBy c r o′ scratch′) (sym (called-by lent (stateOf l) t o scratch (sym e ∙ p))) (record { read = says-coded (step (scopeOf lent) (stateOf l) t .read) (step-typed lent (stateOf l) t (accepted lent (l .position) (length t) (length o) (length scratch) (sym e ∙ p) .0)) (s .read) o (s .left); place = s .place; next = s .next; left = s .left; clean = clean })
 
 -- The place of a call is the position of the state after it, refused or not.
 place-is : (lent : Lent) (s : State) (t output scratch : List ℕ) → nextToken lent s t output scratch .next .position ≡ nextToken lent s t output scratch .place

@@ -13,6 +13,7 @@ use Rattle.lexer.specs.Read.{cellsOf}
 use Rattle.lexer.specs.Lexer as spec
 use Rattle.lexer.specs.Lexer.{State, state, Step}
 use Rattle.lexer.specs.FlagsOf.{flagsOf}
+use Rattle.lexer.specs.Answered.{Says}
 use Rattle.lexer.specs.Taken.{coded}
 use Rattle.lexer.specs.declared.token.Read.{Read}
 use Rattle.tokens.specs.declared.call.Lexer.{Lexer}
@@ -37,9 +38,9 @@ pub record Stepped (a : Step) (o : List ℕ) (r : Called) (o′ : List ℕ) : Ty
   pub next : stateOf (r .next) ≡ a .next
   pub left : o′ ≡ front (cellsOf (a .read)) o
 
--- The call answers r and leaves output and scratch as they are then.
+-- The call answers r and leaves output and scratch as they are then: r's case, by its number and value, is what is read.
 pub record CalledBy (c : spec.Called) (r : Called) (output scratch : List ℕ) : Type 0 where
-  pub read : r .read ≡ coded (c .read)
+  pub read : Says (r .read) output (c .read)
   pub place : r .place ≡ c .place
   pub next : stateOf (r .next) ≡ c .next
   pub left : output ≡ c .output
