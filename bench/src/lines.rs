@@ -44,7 +44,7 @@ fn long(length: usize) -> String {
     repeated(&(RULES.join(",\n") + ",\n"), length)
 }
 
-fn repeated(piece: &str, length: usize) -> String {
+pub fn repeated(piece: &str, length: usize) -> String {
     piece.chars().cycle().take(length).collect()
 }
 
@@ -166,7 +166,7 @@ fn runs(calls: &[ScopeCall], texts: &[String]) -> (Side, Option<Side>) {
 }
 
 /// A run that the Rust would not come to the end of.
-fn port_alone(calls: &[ScopeCall], text: &str) -> (Side, Option<Side>) {
+pub fn port_alone(calls: &[ScopeCall], text: &str) -> (Side, Option<Side>) {
     let mut job = Job::new(&scopes(calls), text);
     (Box::new(move || job.run()), None)
 }

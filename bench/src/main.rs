@@ -1,6 +1,8 @@
 //! Times of the port and of the Rust it was made from. docs/BENCHMARKS.md says what each line is.
 
 #[cfg(rust_is_here)]
+mod costs;
+#[cfg(rust_is_here)]
 mod lines;
 #[cfg(rust_is_here)]
 mod measure;

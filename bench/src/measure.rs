@@ -1,5 +1,6 @@
 //! Measuring: samples of both sides in turn, or one go of one side for an instruction counter.
 
+use crate::costs::costs;
 use crate::lines::{Line, Side, lines};
 use std::process::{Command, ExitCode};
 use std::time::{Duration, Instant};
@@ -9,6 +10,7 @@ const USAGE: &str = "\
 bench times [WORDS]           the lines whose names have these words, or all: medians and ratios with quartiles
 bench instructions [WORDS]    the same, counted by valgrind over one go of each side
 bench once port|other NAME    one go of one side
+bench costs [WORDS]           what costs most, each once, by the port alone: seconds
 ";
 
 /// All lines are measured in so many rounds, some minutes apart, and their samples taken together.
@@ -28,6 +30,7 @@ pub fn main() -> ExitCode {
         ["times", words @ ..] => times(chosen(words)),
         ["instructions", words @ ..] => instructions(chosen(words)).unwrap(),
         ["once", side, name] => once(side, name),
+        ["costs", words @ ..] => dear(words),
         _ => {
             eprint!("{USAGE}");
             return ExitCode::from(2);
@@ -52,6 +55,14 @@ fn times(lines: Vec<Line>) {
             0.0 => println!("| {name} | {port} | | | | | {} |", taken.len()),
             _ => println!("| {name} | {port} | {against} | {takes} | {middle} | {low} to {high} | {} |", taken.len()),
         }
+    }
+}
+
+/// One go of each of what costs most, made ready before it is measured.
+fn dear(words: &[&str]) {
+    println!("| line | seconds |\n|---|---|");
+    for (name, made_ready) in costs().into_iter().filter(|(name, _)| words.iter().all(|word| name.contains(word))) {
+        println!("| {name} | {:.3} |", seconds(&mut made_ready(), 1));
     }
 }
 
