@@ -14,7 +14,7 @@ use Rattle.text.specs.Refusals.{tooLong, shortSlice, brokenScope}
 use Rattle.scope.specs.Lent.{Lent, isBroken, scopeOf}
 use Rattle.lexer.specs.Flags.{Flags}
 use Rattle.runs.specs.Record.{Record, bitFlags}
-use Rattle.runs.specs.Calls.{Room, Answer, made, refused, hasRoom, roomAfter, runRecord, checked, runCall, repairCall}
+use Rattle.runs.specs.Calls.{Room, made, refused, hasRoom, roomAfter, runRecord, checked, runCall, repairCall}
 use Rattle.runs.specs.Ran.{answerOf, Ran}
 use Rattle.runs.specs.declared.call.Made.the-variants as variant
 use Rattle.runs.proofs.Demand3.{demand-3}

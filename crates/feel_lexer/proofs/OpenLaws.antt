@@ -9,7 +9,7 @@ use Rattle.text.specs.Utf8 as utf8
 use Rattle.text.specs.Opening.{openingOf}
 use Rattle.text.specs.declared.utf8.Opening.{Opening as Answered}
 use Rattle.feel_lexer.specs.Numbers.{answerSize}
-use Rattle.feel_lexer.specs.Exported.{Opening, opening, openNumber, openAnswer, feelOpen}
+use Rattle.feel_lexer.specs.Exported.{opening, openNumber, openAnswer, feelOpen}
 
 same-opening : (x : utf8.Opened) (cells : List ℕ) → opening x cells ≡ record { number = openNumber (openingOf x); cells = utf8.openedOutput x cells; answer = openAnswer (openingOf x) }
 same-opening (utf8.opened cs) cells = refl

@@ -4,14 +4,13 @@ use mathlib.Core.Bool.{Bool, true, false, cond, _&&_, false≢true}
 use mathlib.Core.List.{List}
 use Prim.Native.Nat.{ℕ, _≤_, _<_}
 use native.Mathlib.Omega.{arith}
-use lib.Dec.{eqb}
 use lib.ListN.{length}
 use borrow.Author.Tests.{eq-eqb, ne-eqb, eqb-true}
 use Rattle.reading.proofs.Test.{both}
 use Rattle.text.specs.Refusals.{shortSlice}
 use Rattle.scope.specs.Lent.{isBroken}
 use Rattle.feel_lexer.specs.Numbers.{answerSize, placed, scopeSize, isScope, lentOf}
-use Rattle.feel_lexer.specs.Exported.{told, isAnswer, Checked, Sized}
+use Rattle.feel_lexer.specs.Exported.{isAnswer, Checked, Sized}
 
 pub and-true : (b : Bool) → b && true ≡ b
 and-true true = refl

@@ -1,6 +1,5 @@
 // The numbers that a call answers with, each at a place of its own.
 ghost use mathlib.Core.Path.{_≡_};
-ghost use Prim.Native.Nat.{_≤_};
 ghost use lib.ListN.{length};
 ghost use Rattle.feel_lexer.specs.Numbers as spec;
 ghost use Rattle.feel_lexer.specs.Exported.{Sized};

@@ -1,7 +1,6 @@
 // Run and repair.
 ghost use mathlib.Core.Path.{_≡_};
 ghost use lib.Dec.{leb};
-ghost use lib.ListN.{length};
 ghost use Rattle.repair.specs.Asking.{asked};
 ghost use Rattle.feel_lexer.specs.Numbers.{placed, allFlags};
 ghost use Rattle.feel_lexer.specs.Exported as spec;

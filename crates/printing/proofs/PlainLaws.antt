@@ -5,7 +5,7 @@ use mathlib.Core.Option.{Option, none, some}
 use mathlib.Core.List.{List, [], _∷_, _++_}
 use Prim.Native.Nat.{ℕ, zero, suc, _+_}
 use lib.Dec.{ltb, eqb}
-use lib.ListN.{length, getD, take}
+use lib.ListN.{length, getD}
 use Rattle.reading.specs.Codes.{codes}
 use Rattle.reading.specs.Look.{cellAt, Look, done, ask, _>>=_, runFrom, run, reaching}
 use Rattle.reading.specs.Cells.{maybe, is, holds}
@@ -18,13 +18,13 @@ use Rattle.names.specs.Same.{same, member}
 use Rattle.names.specs.Name.{newName}
 use Rattle.names.specs.Fixed.{typeNames, temporalNames}
 use Rattle.lexer.specs.Flags.{Flags}
-use Rattle.lexer.specs.Read.{Read, token, refused, nothing, Outcome, valueCells}
+use Rattle.lexer.specs.Read.{Read, token, refused, Outcome, valueCells}
 use Rattle.lexer.specs.TokenType
 use Rattle.lexer.specs.Skip.{skip}
 use Rattle.lexer.specs.Number.{orZero, numeric, readSign, readExponent, readNumber}
 use Rattle.lexer.specs.Text.{Piece, char, stop, onPiece, Hex, value, noDigit, readHex, isFirstHalf, isSecondHalf, pairOf, digitCount, readSecondHalf, readCodePoint, plainEscape, readEscape, readPiece, readString}
 use Rattle.lexer.specs.Parts.{Part, walk}
-use Rattle.lexer.specs.Naming.{texts, nameOf, startsWith, beforeIn, longest, isFound, allParts, byPrefix, byIn, cutName, readName}
+use Rattle.lexer.specs.Naming.{texts, nameOf, startsWith, beforeIn, longest, isFound, allParts, byPrefix, byIn, cutName}
 use Rattle.lexer.specs.Window.{window, Row, words, symbols, taken, leads, isFollowed, firstOf}
 use Rattle.lexer.specs.Token.{otherCases, cases, tokenWith, readToken}
 

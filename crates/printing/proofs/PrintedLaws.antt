@@ -2,7 +2,7 @@
 use mathlib.Core.Path.{_≡_, refl, sym, ap, _∙_, subst}
 use mathlib.Core.Bool.{false}
 use mathlib.Core.Option.{Option, none, some}
-use mathlib.Core.List.{List, [], _∷_, _++_}
+use mathlib.Core.List.{List, [], _∷_}
 use Prim.Native.Nat.{ℕ, zero, suc, _+_, _-_, _*_, _≤_, _<_}
 use native.Mathlib.Omega.{arith}
 use lib.Dec.{ltb}
@@ -30,11 +30,11 @@ use Rattle.runs.specs.declared.call.Made.the-variants as variant
 use Rattle.runs.specs.Item.{Item}
 use Rattle.runs.specs.Run.{runItems}
 use Rattle.runs.specs.Record.{rowsFrom, storeOf, pack, unpack}
-use Rattle.runs.specs.Calls.{Room, Answer, made, roomAfter, runCall, runRecord}
+use Rattle.runs.specs.Calls.{Room, made, roomAfter, runCall, runRecord}
 use Rattle.runs.specs.Ran.{answerOf, Ran}
 use Rattle.runs.specs.Print.{lines, refusedLine, printedOf, printed}
 use Rattle.runs.proofs.RecordLaws.{row-count, unpacked}
-use Rattle.runs.proofs.CallLaws.{Passes, checked-made}
+use Rattle.runs.proofs.CallLaws.{checked-made}
 use Rattle.printing.specs.Room.{maxInput}
 use Rattle.printing.proofs.RoomLaws.{lines-short}
 

@@ -14,7 +14,7 @@ use Rattle.runs.specs.Item.{Item}
 use Rattle.runs.specs.Record.{storeOf}
 use Rattle.runs.specs.Print.{digit, digitsIn, decimal, hexadecimal, joinedByComma, hasCarry, valueField, line, lines, refusedLine}
 use Rattle.printing.proofs.ValueLaws.{number-size}
-use Rattle.printing.proofs.LineLaws.{type-size, line-size, refused-size}
+use Rattle.printing.proofs.LineLaws.{line-size, refused-size}
 
 digits-short : (base k n : ℕ) (ds : List ℕ) → length (digitsIn base k n ds) ≤ k + length ds
 unfolding digitsIn

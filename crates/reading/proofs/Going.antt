@@ -1,12 +1,12 @@
 -- How code follows a reading: what the whole has come to, and the reach so far.
-use mathlib.Core.Path.{_≡_, refl, sym, ap, _∙_, subst}
+use mathlib.Core.Path.{_≡_, refl, ap, _∙_}
 use mathlib.Core.Bool.{Bool}
 use mathlib.Core.Option.{Option}
 use mathlib.Core.List.{List}
-use Prim.Native.Nat.{ℕ, suc, _+_, _-_, _≤_, _<_, max}
+use Prim.Native.Nat.{ℕ, _+_, _-_, _≤_, _<_, max}
 use native.Mathlib.Omega.{arith}
 use lib.ListN.{length}
-use Rattle.reading.specs.Look.{cellAt, Look, done, ask, _>>=_, Seen, runFrom, run, reaching}
+use Rattle.reading.specs.Look.{cellAt, Look, done, ask, _>>=_, Seen, runFrom, run}
 use Rattle.reading.specs.Goes.{got, Goes, Sees, Reads}
 use Rattle.reading.specs.Span.{gather, part}
 use Rattle.reading.proofs.Reading.{run-bind, same-answer, reach-apart}

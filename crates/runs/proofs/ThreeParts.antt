@@ -19,7 +19,7 @@ use Rattle.runs.specs.Edit.{Edit, moved, movedItem}
 use Rattle.runs.specs.Repair.{isMatch, oldRest, followed, freshItems, isKept, repairedFrom, repairItems}
 use Rattle.runs.specs.Record.{Record, positionAt, reachAt, itemOf, pack, unpack, repair}
 use Rattle.runs.specs.Request.{Request, rowFits, firstFits, recordFits, isBrokenRequest}
-use Rattle.runs.specs.Parts.{kept, Inner, Match, Afresh, ThreeParts, allKept, noMatch, firstMatch}
+use Rattle.runs.specs.Parts.{kept, Inner, Match, ThreeParts, allKept, noMatch, firstMatch}
 use Rattle.runs.proofs.RepairLaws.{matched}
 use Rattle.runs.proofs.RecordLaws.{unpacked}
 

@@ -1,7 +1,7 @@
 // The check that every call lent a scope makes. A row is read only if it is in use.
 ghost use mathlib.Core.Path.{_≡_};
 ghost use mathlib.Core.Bool.{true, false, _||_, _&&_, not};
-ghost use mathlib.Core.List.{[], map};
+ghost use mathlib.Core.List.{[]};
 ghost use Prim.Native.Nat.{_+_, _≤_, _<_};
 ghost use Rattle.scope.specs.Limits.{maxContexts, maxEntries, maxParsed, maxName};
 ghost use lib.Dec.{ltb, eqb};

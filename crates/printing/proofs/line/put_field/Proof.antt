@@ -1,7 +1,5 @@
 -- The cell is the number.
-use mathlib.Core.Path.{_≡_, sym, ap, _∙_}
 use native.Mathlib.Omega.{arith}
-use lib.ListN.{length}
 use borrow.Author.Needs.{needs}
 use Rattle.printing.proofs.line.put_field.Statement.{statement}
 use Rattle.printing.proofs.line.put_field.Tie as tie

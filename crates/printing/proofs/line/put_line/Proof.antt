@@ -1,7 +1,5 @@
 -- Field behind field.
-use mathlib.Core.Path.{_≡_, sym, ap, _∙_}
 use native.Mathlib.Omega.{arith}
-use lib.ListN.{length}
 use Rattle.runs.specs.Record.{itemOf}
 use Rattle.printing.proofs.FurtherLaws.{further-same, further-more}
 use Rattle.printing.proofs.LineLaws.{line-is, line-size}

@@ -1,7 +1,5 @@
 -- Field behind field.
-use mathlib.Core.Path.{_≡_, sym, ap, _∙_}
 use native.Mathlib.Omega.{arith}
-use lib.ListN.{length}
 use Rattle.printing.proofs.FurtherLaws.{further-same, further-more, further-first}
 use Rattle.printing.proofs.LineLaws.{refused-is, refused-size}
 use borrow.Author.Needs.{needs}

@@ -1,7 +1,5 @@
 -- The mark, then the number.
-use mathlib.Core.Path.{_≡_, sym, ap, _∙_}
 use native.Mathlib.Omega.{arith}
-use lib.ListN.{length, length-append}
 use Rattle.printing.proofs.FurtherLaws.{further-same, further-more}
 use Rattle.printing.proofs.LineLaws.{type-is, type-size}
 use borrow.Author.Needs.{needs}

@@ -1,9 +1,8 @@
 -- Each turn copies one cell.
-use mathlib.Core.Path.{_≡_, sym, ap, _∙_}
+use mathlib.Core.Path.{_≡_, _∙_}
 use native.Mathlib.Omega.{arith}
 use native.Mathlib.Nat.{zero-add}
 use Prim.Native.Nat.{_-_, _≤_}
-use lib.ListN.{length}
 use Rattle.reading.proofs.Front.{Copying, copying-none, copying-more, front-first}
 use Rattle.printing.proofs.print.put_bytes.Statement.{statement}
 use Rattle.printing.proofs.print.put_bytes.Tie as tie

@@ -1,5 +1,5 @@
 -- By the test, the digits or a dash.
-use mathlib.Core.Path.{_≡_, sym, ap, _∙_}
+use mathlib.Core.Path.{_≡_, sym, _∙_}
 use mathlib.Core.Bool.{true, false}
 use native.Mathlib.Omega.{arith}
 use Rattle.runs.specs.Print.{hasCarry}

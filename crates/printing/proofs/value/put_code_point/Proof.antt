@@ -1,8 +1,5 @@
 -- By the test, a comma first.
-use mathlib.Core.Path.{_≡_, sym, ap, _∙_}
 use native.Mathlib.Omega.{arith}
-use mathlib.Core.List.{_++_}
-use lib.ListN.{length, length-append}
 use Rattle.printing.proofs.FurtherLaws.{further-more}
 use borrow.Author.Needs.{needs}
 use Rattle.printing.proofs.value.put_code_point.Statement.{statement}

@@ -1,7 +1,6 @@
 -- The three parts of the digits are those that the lengths tell.
 use mathlib.Core.Path.{refl}
 use native.Mathlib.Omega.{arith}
-use lib.ListN.{length}
 use Rattle.printing.proofs.FurtherLaws.{further-same, further-more}
 use Rattle.printing.proofs.ValueLaws.{part-before, part-after, part-rest, number-is, number-size}
 use borrow.Author.Needs.{needs}

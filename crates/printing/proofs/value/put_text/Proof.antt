@@ -1,5 +1,4 @@
 -- The sign, then the code points.
-use native.Mathlib.Omega.{arith}
 use Rattle.printing.proofs.FurtherLaws.{further-more}
 use borrow.Author.Needs.{needs}
 use Rattle.printing.proofs.value.put_text.Statement.{statement}

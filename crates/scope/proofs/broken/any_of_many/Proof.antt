@@ -1,5 +1,5 @@
 -- No name stands twice among the entries passed, and each has left its mark.
-use mathlib.Core.Path.{_≡_, refl, sym, _∙_, ap}
+use mathlib.Core.Path.{_≡_, refl, sym, _∙_}
 use mathlib.Core.Bool.{_&&_, false}
 use Prim.Native.Nat.{_+_, _-_, _≤_}
 use lib.ListN.{drop, getD}

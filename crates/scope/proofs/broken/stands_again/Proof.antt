@@ -1,5 +1,4 @@
 -- A mark that is free leaves nothing to look for.
-use mathlib.Core.Path.{_≡_}
 use Rattle.scope.proofs.MarkLaws.{and-taken, and-free}
 use borrow.Author.Needs.{needs}
 use Rattle.scope.proofs.broken.stands_again.Statement.{statement}
