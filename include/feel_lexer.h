@@ -15,6 +15,7 @@
  * Answers. Every call returns 0, or the number of a refusal (enum feel_refusal), and writes eight
  * numbers to `answer` (enum feel_answer). Numbers that a call does not give are 0. A refusal gives
  * a place and, for 3, 5 and 6, a carry in FEEL_ANSWER_EXTRA. Places in a text count characters.
+ * feel_is_built_in_function_name alone has no answer and refuses nothing.
  *
  * Refused calls. A refused call leaves everything as it was, but for the answer, for scratch, and
  * for the lexer after 3 to 8. Scratch is all zero after every call that takes it, so lend no more
@@ -255,6 +256,13 @@ enum feel_token {
  * The place of 2 is a byte, that of the others 0. */
 uint32_t feel_open(const uint8_t *bytes, size_t bytes_len, uint32_t *cells, size_t cells_len,
                    size_t *answer, size_t answer_len);
+
+/* ---- Names of functions ---- */
+
+/* Whether a name, one cell a character, is that of a built-in function, spelled exactly so: 1 or 0.
+ * A run reads such a name like any other; an editor may ask this of a FEEL_TOKEN_NAME or
+ * _NAME_DATE_TIME before `(`. */
+uint32_t feel_is_built_in_function_name(const uint32_t *name, size_t name_len);
 
 /* ---- Scopes ----
  *

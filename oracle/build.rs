@@ -124,10 +124,19 @@ fn edited(folder: &Path, package: &str, file: &str) -> String {
     for (_, text) in ADDED.iter().filter(|a| a.0 == file) {
         source += text;
     }
-    if file == "lalr" {
-        source += &token_types(&source);
+    match file {
+        "lalr" => source += &token_types(&source),
+        "bif" => source += &function_names(&source),
+        _ => {}
     }
     source
+}
+
+/// The list of the names that the source has as constants.
+fn function_names(source: &str) -> String {
+    let names: String =
+        source.lines().filter_map(|line| line.strip_prefix("const BIF_")?.split_once(": &str")).map(|(name, _)| format!("BIF_{name}, ")).collect();
+    format!("\npub const FUNCTION_NAMES: &[&str] = &[{names}];\n")
 }
 
 /// The way back from a number to its `TokenType`, which the tables lack.

@@ -2,6 +2,7 @@
 
 use crate::bytes::Bytes;
 use crate::edits::Edits;
+use crate::functions::Functions;
 use crate::runs::Runs;
 use crate::scopes::ScopeCalls;
 use crate::sources::sources;
@@ -81,6 +82,7 @@ fn kinds() -> Vec<Kind> {
     let others = [
         Kind { name: "edits".into(), cases: Edits::COUNT, new: Box::new(|broken| Box::new(Edits::new(broken))) },
         Kind { name: "scopes".into(), cases: ScopeCalls::COUNT, new: Box::new(|broken| Box::new(ScopeCalls::new(broken))) },
+        Kind { name: "functions".into(), cases: Functions::COUNT, new: Box::new(|broken| Box::new(Functions::new(broken))) },
         Kind { name: "bytes".into(), cases: Bytes::COUNT, new: Box::new(|broken| Box::new(Bytes::new(broken))) },
     ];
     sources().into_iter().enumerate().map(of_source).chain(others).collect()

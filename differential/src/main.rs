@@ -7,6 +7,8 @@ mod commands;
 #[cfg(rust_is_here)]
 mod edits;
 #[cfg(rust_is_here)]
+mod functions;
+#[cfg(rust_is_here)]
 mod port;
 #[cfg(rust_is_here)]
 mod runs;

@@ -7,7 +7,9 @@
 //! may be given more than once. --plain labels the tokens instead of colouring them, as it is done
 //! where the output is no terminal; --colour always colours.
 
-use feel_lexer::{Flags, Item, Record, Repaired, Scope, Text, TokenType, Workspace};
+use feel_lexer::{
+    Flags, Item, Record, Repaired, Scope, Text, TokenType, Workspace, is_built_in_function_name,
+};
 use std::error::Error;
 use std::io::{self, IsTerminal, Read};
 use std::ops::Range;
@@ -18,6 +20,8 @@ use std::process::ExitCode;
 enum Class {
     Keyword,
     Name,
+    /// The name of a built-in function that is called.
+    Function,
     Type,
     Number,
     String,
@@ -36,9 +40,10 @@ enum Class {
 
 impl Class {
     /// Those that a legend names.
-    const SHOWN: [Class; 11] = [
+    const SHOWN: [Class; 12] = [
         Class::Keyword,
         Class::Name,
+        Class::Function,
         Class::Type,
         Class::Number,
         Class::String,
@@ -55,6 +60,7 @@ impl Class {
         match self {
             Class::Keyword => ("keyword", "1;35"),
             Class::Name => ("name", "36"),
+            Class::Function => ("function", "1;36"),
             Class::Type => ("type", "1;34"),
             Class::Number => ("number", "33"),
             Class::String => ("string", "32"),
@@ -81,6 +87,19 @@ impl Class {
             | LeftParen | RightParen | LeftBracket | RightBracket => Class::Symbol,
             YyEof | YyUndef | YyError => Class::Broken,
             _ => Class::Keyword,
+        }
+    }
+
+    /// By the token's type, and for a name by whether it is a function's before `(`.
+    fn of_item(item: &Item, next: Option<&Item>) -> Class {
+        let Some(token_type) = item.token_type() else {
+            return Class::Broken;
+        };
+        let is_called = next.is_some_and(|next| next.token_type() == Some(TokenType::LeftParen));
+        let is_name = matches!(token_type, TokenType::Name | TokenType::NameDateTime);
+        match item.text().filter(|_| is_called && is_name) {
+            Some(name) if is_built_in_function_name(&name.to_string()) => Class::Function,
+            _ => Class::of(token_type),
         }
     }
 }
@@ -117,7 +136,7 @@ fn comment_end(chars: &[char], from: usize) -> Option<usize> {
 
 /// The pieces of one item: white space and comments, then the token, then white space that a name
 /// has taken. A record does not say where a token begins; the text does.
-fn item_pieces(chars: &[char], item: &Item, pieces: &mut Vec<Piece>) {
+fn item_pieces(chars: &[char], item: &Item, class: Class, pieces: &mut Vec<Piece>) {
     let chars = &chars[..item.position];
     let mut at = item.from;
     while at < chars.len() {
@@ -135,7 +154,6 @@ fn item_pieces(chars: &[char], item: &Item, pieces: &mut Vec<Piece>) {
         .take_while(|&&c| is_space(c))
         .count();
     let end = chars.len() - spaces;
-    let class = item.token_type().map_or(Class::Broken, Class::of);
     pieces.push(Piece::new(class, at..end));
     pieces.push(Piece::new(Class::Space, end..chars.len()));
 }
@@ -155,8 +173,10 @@ fn put_lines(chars: &[char], piece: Piece, lines: &mut Vec<Piece>) {
 /// All of a record's text in pieces.
 fn pieces(chars: &[char], record: &Record) -> Vec<Piece> {
     let mut pieces = Vec::new();
-    for item in record {
-        item_pieces(chars, &item, &mut pieces);
+    let mut items = record.items().peekable();
+    while let Some(item) = items.next() {
+        let class = Class::of_item(&item, items.peek());
+        item_pieces(chars, &item, class, &mut pieces);
     }
     let read = record.items().next_back().map_or(0, |item| item.position);
     pieces.push(Piece::new(Class::Unread, read..chars.len()));

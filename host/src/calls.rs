@@ -79,6 +79,12 @@ pub(crate) fn open(bytes: &[u8], cells: &mut [u32]) -> Result<Answer, Refusal> {
     answered(number, answer)
 }
 
+pub(crate) fn is_built_in_function_name(name: &[u32]) -> bool {
+    // SAFETY: pointer and length of a slice, which is only read.
+    let told = unsafe { sys::feel_is_built_in_function_name(name.as_ptr(), name.len()) };
+    told == 1
+}
+
 pub(crate) fn scope_opened(counts: &mut [usize]) -> Result<Answer, Refusal> {
     let mut answer = Numbers::default();
     // SAFETY: pointers and lengths of slices; counts and answer are lent to this call alone.

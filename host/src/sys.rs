@@ -50,6 +50,9 @@ unsafe extern "C" {
         answer_len: usize,
     ) -> u32;
 
+    /// Whether a name is that of a built-in function: 1 or 0.
+    pub fn feel_is_built_in_function_name(name: *const u32, name_len: usize) -> u32;
+
     /// Opens a scope with one empty context.
     pub fn feel_scope_opened(
         scope: *mut usize,

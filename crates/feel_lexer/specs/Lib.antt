@@ -1,3 +1,4 @@
 pub mod Numbers
 pub mod Exported
 pub mod HandedOn
+pub mod FunctionNames

@@ -7,3 +7,4 @@ pub mod open; // open.rt: bytes opened
 pub mod scopes; // scopes.rt: the scope calls
 pub mod token; // token.rt: the token call
 pub mod record; // record.rt: run and repair
+pub mod function_names; // function_names.rt: the names of the built-in functions
