@@ -83,7 +83,8 @@ pub fn read_item(
     );
     let read = o.read;
     let flags = o.flags;
-    let i = Item::new(read, p + o.used, flags, p + o.reach);
+    let looked = o.reach;
+    let i = Item::new(read, p + o.used, flags, p + looked);
     item::put_row(rows, at.items, i, u);
     let ended = item::ends_run(i);
     Progress {

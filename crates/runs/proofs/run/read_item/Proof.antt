@@ -46,38 +46,38 @@ add-new c =
 
 add-new-2 : tie.Need-add-new-2
 add-new-2 c =
-    let k = c .before .before .before .before .before .before .before .before .before .before .before .before .before .before in
-    let g = found _ (k .args .text .now) (k .args .at .position) _ (c .before .before .before .before .before .before .before .read-token .ensures .0) (k .pre .0) (k .pre .3) in
+    let k = c .before .before .before .before .before .before .before .before .before .before .before .before .before in
+    let g = found _ (k .args .text .now) (k .args .at .position) _ (c .before .before .before .before .before .before .read-token .ensures .0) (k .pre .0) (k .pre .3) in
     omega (arith, g .far, k .pre .0)
 
 new-requires : tie.Need-new-requires
 new-requires c κs =
-    let k = c .before .before .before .before .before .before .before .before .before .before .before .before .before .before in
-    let g = found _ (k .args .text .now) (k .args .at .position) _ (c .before .before .before .before .before .before .before .read-token .ensures .0) (k .pre .0) (k .pre .3) in
+    let k = c .before .before .before .before .before .before .before .before .before .before .before .before .before in
+    let g = found _ (k .args .text .now) (k .args .at .position) _ (c .before .before .before .before .before .before .read-token .ensures .0) (k .pre .0) (k .pre .3) in
     omega (arith, g .cells, g .used, k .pre .0)
 
 put-row-requires : tie.Need-put-row-requires
 put-row-requires c κs =
-    let k = c .before .before .before .before .before .before .before .before .before .before .before .before .before .before .before .before in
-    let m = found-small _ (k .args .text .now) (k .args .at .position) _ (c .before .before .before .before .before .before .before .before .before .read-token .ensures .0) (k .pre .0) (k .pre .3) (c .before .new .ensures) in
+    let k = c .before .before .before .before .before .before .before .before .before .before .before .before .before .before .before in
+    let m = found-small _ (k .args .text .now) (k .args .at .position) _ (c .before .before .before .before .before .before .before .before .read-token .ensures .0) (k .pre .0) (k .pre .3) (c .before .new .ensures) in
     (k .pre .5, m, omega (arith, k .pre .0, k .pre .3, k .pre .4))
 
 ends-run-requires : tie.Need-ends-run-requires
 ends-run-requires c κs = search needs
 
-add-t22 : tie.Need-add-t22
-add-t22 c =
-    let k = c .before .before .before .before .before .before .before .before .before .before .before .before .before .before .before .before .before .before .before .before in
-    let g = found _ (k .args .text .now) (k .args .at .position) _ (c .before .before .before .before .before .before .before .before .before .before .before .before .before .read-token .ensures .0) (k .pre .0) (k .pre .3) in
+add-t23 : tie.Need-add-t23
+add-t23 c =
+    let k = c .before .before .before .before .before .before .before .before .before .before .before .before .before .before .before .before .before .before .before in
+    let g = found _ (k .args .text .now) (k .args .at .position) _ (c .before .before .before .before .before .before .before .before .before .before .before .before .read-token .ensures .0) (k .pre .0) (k .pre .3) in
     omega (arith, g .used, k .pre .0)
 
-add-t19 : tie.Need-add-t19
-add-t19 c = let k = c .before .before .before .before .before .before .before .before .before .before .before .before .before .before .before .before .before .before .before .before .before in omega (arith, k .pre .6)
+add-t20 : tie.Need-add-t20
+add-t20 c = let k = c .before .before .before .before .before .before .before .before .before .before .before .before .before .before .before .before .before .before .before .before in omega (arith, k .pre .6)
 
-add-t24 : tie.Need-add-t24
-add-t24 c =
-    let k = c .before .before .before .before .before .before .before .before .before .before .before .before .before .before .before .before .before .before .before .before .before .before in
-    let m = found-small _ (k .args .text .now) (k .args .at .position) _ (c .before .before .before .before .before .before .before .before .before .before .before .before .before .before .before .read-token .ensures .0) (k .pre .0) (k .pre .3) (c .before .before .before .before .before .before .before .new .ensures) in
+add-t25 : tie.Need-add-t25
+add-t25 c =
+    let k = c .before .before .before .before .before .before .before .before .before .before .before .before .before .before .before .before .before .before .before .before .before in
+    let m = found-small _ (k .args .text .now) (k .args .at .position) _ (c .before .before .before .before .before .before .before .before .before .before .before .before .before .before .read-token .ensures .0) (k .pre .0) (k .pre .3) (c .before .before .before .before .before .before .before .new .ensures) in
     omega (arith, m .size, m .parts, k .pre .0, k .pre .3, k .pre .4)
 
 same-length : tie.Need-same-length
@@ -85,8 +85,8 @@ same-length c = search needs
 
 same-length-2 : tie.Need-same-length-2
 same-length-2 c =
-    let k = c .before .before .before .before .before .before .before .before .before .before .before .before .before .before .before .before .before .before .before .before .before .before in
-    let n = next-is _ (k .args .text .now) (k .args .at) (k .args .store .now) (c .before .before .before .before .before .before .before .before .before .before .before .before .before .before .before .read-token .ensures .0) (k .pre .0) (k .pre .3) {rows = k .args .rows .now} (c .before .before .before .before .before .before .before .new .ensures) (c .before .before .before .before .before .put-row .ensures) (c .before .before .before .ends-run .ensures) in
+    let k = c .before .before .before .before .before .before .before .before .before .before .before .before .before .before .before .before .before .before .before .before .before in
+    let n = next-is _ (k .args .text .now) (k .args .at) (k .args .store .now) (c .before .before .before .before .before .before .before .before .before .before .before .before .before .before .read-token .ensures .0) (k .pre .0) (k .pre .3) {rows = k .args .rows .now} (c .before .before .before .before .before .before .before .new .ensures) (c .before .before .before .before .before .put-row .ensures) (c .before .before .before .ends-run .ensures) in
     next-long n (k .pre .1)
 
 same-length-3 : tie.Need-same-length-3
@@ -94,8 +94,8 @@ same-length-3 c = search needs
 
 returns : tie.Need-returns
 returns c =
-    let k = c .before .before .before .before .before .before .before .before .before .before .before .before .before .before .before .before .before .before .before .before .before .before in
-    (next-is _ (k .args .text .now) (k .args .at) (k .args .store .now) (c .before .before .before .before .before .before .before .before .before .before .before .before .before .before .before .read-token .ensures .0) (k .pre .0) (k .pre .3) (c .before .before .before .before .before .before .before .new .ensures) (c .before .before .before .before .before .put-row .ensures) (c .before .before .before .ends-run .ensures), c .before .before .before .before .before .before .before .before .before .before .before .before .before .before .before .read-token .ensures .1)
+    let k = c .before .before .before .before .before .before .before .before .before .before .before .before .before .before .before .before .before .before .before .before .before in
+    (next-is _ (k .args .text .now) (k .args .at) (k .args .store .now) (c .before .before .before .before .before .before .before .before .before .before .before .before .before .before .read-token .ensures .0) (k .pre .0) (k .pre .3) (c .before .before .before .before .before .before .before .new .ensures) (c .before .before .before .before .before .put-row .ensures) (c .before .before .before .ends-run .ensures), c .before .before .before .before .before .before .before .before .before .before .before .before .before .before .read-token .ensures .1)
 
 pub read-item-spec : {M : Type 1} → statement M
 read-item-spec =
@@ -115,9 +115,9 @@ read-item-spec =
     new-requires
     put-row-requires
     ends-run-requires
-    add-t22
-    add-t19
-    add-t24
+    add-t23
+    add-t20
+    add-t25
     same-length
     same-length-2
     same-length-3
