@@ -13,12 +13,12 @@ use Rattle.text.specs.Limits.{maxChars}
 use Rattle.text.specs.Refusals.{tooLong, shortSlice, brokenScope}
 use Rattle.scope.specs.Lent.{Lent, isBroken, scopeOf}
 use Rattle.lexer.specs.Flags.{Flags}
+use Rattle.runs.specs.Edit.{Change, changed}
 use Rattle.runs.specs.Record.{Record, bitFlags}
 use Rattle.runs.specs.Calls.{Room, made, refused, hasRoom, roomAfter, runRecord, checked, runCall, repairCall}
 use Rattle.runs.specs.Ran.{answerOf, Ran}
 use Rattle.runs.specs.declared.call.Made.the-variants as variant
 use Rattle.runs.proofs.Demand3.{demand-3}
-use Rattle.runs.proofs.Edits.{Change, changed}
 use Rattle.repair.proofs.BothCalls.{behind, same-request}
 use Rattle.feel_lexer.specs.Numbers.{lentOf, allFlags}
 use Rattle.feel_lexer.specs.Exported.{isAnswer, Recorded, recorded, notRecorded, feelRun, feelRepair}

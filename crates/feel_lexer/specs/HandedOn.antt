@@ -3,11 +3,11 @@ use mathlib.Core.Path.{_≡_}
 use mathlib.Core.List.{List, [], _∷_}
 use Prim.Native.Nat.{ℕ, _≤_}
 use lib.ListN.{length, getD, take, drop}
+use Rattle.runs.specs.Edit.{Change, changed, editOf}
 use Rattle.runs.specs.Repair.{lastKept}
 use Rattle.runs.specs.Record.{unpack}
 use Rattle.runs.specs.Request.{Request}
 use Rattle.runs.specs.Calls.{Room}
-use Rattle.runs.proofs.Edits.{Change, changed, editOf}
 use Rattle.repair.specs.Asking.{asked}
 use Rattle.feel_lexer.specs.Numbers.{itemsAt}
 use Rattle.feel_lexer.specs.Exported.{Recorded, feelRun, feelRepair}

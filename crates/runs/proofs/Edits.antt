@@ -6,23 +6,12 @@ use lib.ListN.{length, drop}
 use Rattle.text.specs.Limits.{maxChars}
 use Rattle.lexer.specs.Flags.{Flags}
 use Rattle.runs.specs.Run.{Reader, runItems}
-use Rattle.runs.specs.Edit.{Edit, edited}
+use Rattle.runs.specs.Edit.{Change, changed, editOf}
 use Rattle.runs.specs.Repair.{lastKept}
 use Rattle.runs.specs.Record.{Record, rowsFrom, storeOf, pack, unpack, repair}
 use Rattle.runs.proofs.RunLaws.{IsSound}
 use Rattle.runs.proofs.RecordLaws.{unpacked}
 use Rattle.runs.proofs.Demand3.{record-repaired}
-
-pub record Change : Type 0 where
-  pub from : ℕ
-  pub to : ℕ
-  pub new : List ℕ
-
-abbrev pub changed : List ℕ → Change → List ℕ
-changed t c = edited t (c .from) (c .to) (c .new)
-
-abbrev pub editOf : Change → Edit
-editOf c = record { from = c .from; to = c .to; size = length (c .new) }
 
 -- Each edit lies in the text that it meets, and leaves one within the limit.
 abbrev pub Fits : List ℕ → List Change → Type 0
