@@ -14,7 +14,11 @@ ghost use Rattle.scope.specs.Rows.{earlier};
 ghost use Rattle.scope.specs.Listing as listing;
 use scope::broken;
 use scope::compare;
+use scope::scope::Kind;
 use scope::scope::Scope;
+
+// A cut below every depth: nothing goes.
+pub const NO_CUT: u32 = Scope::MAX_DEPTH + 1;
 
 // Whether a name span lies outside the cells.
 pub fn any_outside(list: &[[u32; 4]], cells: &[u32]) -> bool
@@ -48,7 +52,7 @@ fn is_orphan(list: &[[u32; 4]], cells: &[u32], i: usize) -> bool
     while 0 < j {
         let row = list[j - 1];
         if row[0] == depth - 1 {
-            return row[1] != 1;
+            return row[1] != Kind::CONTEXT;
         }
         if row[0] < depth {
             return true;
@@ -74,7 +78,7 @@ fn is_broken_row(list: &[[u32; 4]], cells: &[u32], i: usize, most: u32) -> bool
     if most < list[i][0] {
         return true;
     }
-    if 1 < list[i][1] {
+    if Kind::CONTEXT < list[i][1] {
         return true;
     }
     if is_orphan(list, cells, i) {
@@ -157,7 +161,7 @@ pub fn cut_after(cut: u32, d: u32, kept: bool) -> u32
     ensures { λ r. ⌜ r ≡ listing.cutAfter cut d kept ⌝ }
 {
     if kept {
-        return 8;
+        return NO_CUT;
     }
     if cut <= d {
         return cut;
@@ -180,7 +184,7 @@ pub fn remaining(list: &[[u32; 4]], cells: &[u32]) -> usize
     ensures { λ r. ⌜ ((k : ℕ) → r ≡ min (suc maxEntries) (length (settled (listed k (now (cells .entry)) (now (list .entry)))))) ⌝ }
 {
     let mut n: usize = 0;
-    let mut cut: u32 = 8;
+    let mut cut = NO_CUT;
     let mut i: usize = 0;
     while i < list.len() {
         if Scope::MAX_ENTRIES < n {

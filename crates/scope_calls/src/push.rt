@@ -16,11 +16,12 @@ use scope::broken;
 use scope::compare;
 use scope::scope::Changed;
 use scope::scope::Scope;
+use text::refusal::Refusal;
 
 // Writes the entry at i, if it stays, with `up` added to its depth; answers the next free place.
 fn put_kept(
     slots: &mut [[u32; 4]],
-    names: &mut [[u32; 128]],
+    names: &mut [[u32; Scope::MAX_NAME]],
     at: usize,
     context: u32,
     up: u32,
@@ -53,7 +54,7 @@ fn put_kept(
 // Writes the entries that are left after replacing, from the place `from` on; answers the next free place.
 pub fn append(
     slots: &mut [[u32; 4]],
-    names: &mut [[u32; 128]],
+    names: &mut [[u32; Scope::MAX_NAME]],
     from: usize,
     context: u32,
     up: u32,
@@ -65,7 +66,7 @@ pub fn append(
     ensures { λ r. ⌜ Appended (now (slots .entry)) (now (names .entry)) (now (slots .exit)) (now (names .exit)) from r (map (raised up) (settled (listed context (now (cells .entry)) (now (rows .entry))))) ⌝ }
 {
     let mut at = from;
-    let mut cut: u32 = 8;
+    let mut cut = list::NO_CUT;
     let mut i: usize = 0;
     while i < rows.len() {
         let kept = list::stays(rows, cells, i, cut);
@@ -81,7 +82,7 @@ pub fn append(
 pub fn push(
     s: Scope,
     slots: &mut [[u32; 4]],
-    names: &mut [[u32; 128]],
+    names: &mut [[u32; Scope::MAX_NAME]],
     rows: &[[u32; 4]],
     cells: &[u32],
 ) -> Changed
@@ -89,19 +90,19 @@ pub fn push(
         × Kept r (now (slots .entry)) (now (slots .exit)) × Kept r (now (names .entry)) (now (names .exit)) × Whole r (now (slots .exit)) (now (names .exit)) ⌝ }
 {
     if broken::is_broken(s, slots, names) {
-        return Changed::Refused(10);
+        return Changed::Refused(Refusal::BROKEN_SCOPE);
     }
     if list::any_outside(rows, cells) {
-        return Changed::Refused(10);
+        return Changed::Refused(Refusal::BROKEN_SCOPE);
     }
     if list::any_broken(rows, cells, Scope::MAX_DEPTH) {
-        return Changed::Refused(10);
+        return Changed::Refused(Refusal::BROKEN_SCOPE);
     }
     if Scope::MAX_CONTEXTS <= s.contexts {
-        return Changed::Refused(11);
+        return Changed::Refused(Refusal::OVER_LIMIT);
     }
     if Scope::MAX_ENTRIES - s.entries < list::remaining(rows, cells) {
-        return Changed::Refused(11);
+        return Changed::Refused(Refusal::OVER_LIMIT);
     }
     let end = append(
         slots,

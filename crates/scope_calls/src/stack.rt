@@ -9,9 +9,15 @@ use scope::broken;
 use scope::compare;
 use scope::scope::Changed;
 use scope::scope::Scope;
+use text::refusal::Refusal;
 
 // The number of entries before the first of context k.
-pub fn before_context(slots: &[[u32; 4]], names: &[[u32; 128]], count: usize, k: usize) -> usize
+pub fn before_context(
+    slots: &[[u32; 4]],
+    names: &[[u32; Scope::MAX_NAME]],
+    count: usize,
+    k: usize,
+) -> usize
     requires { ⌜ (count ≤ length (now slots)) × (count ≤ length (now names)) ⌝ }
     ensures { λ r. ⌜ (r ≤ count) × (held r (now (slots .entry)) (now (names .entry)) ≡ spec.under k (held count (now (slots .entry)) (now (names .entry))))
         × (drop r (held count (now (slots .entry)) (now (names .entry))) ≡ spec.top k (held count (now (slots .entry)) (now (names .entry)))) ⌝ }
@@ -28,11 +34,11 @@ pub fn before_context(slots: &[[u32; 4]], names: &[[u32; 128]], count: usize, k:
 
 // Pops the last context; the parsed names stay. Nothing is written.
 // Ruled out, among others: an empty stack refused; parsed names popped with their context.
-pub fn pop(s: Scope, slots: &[[u32; 4]], names: &[[u32; 128]]) -> Changed
+pub fn pop(s: Scope, slots: &[[u32; 4]], names: &[[u32; Scope::MAX_NAME]]) -> Changed
     ensures { λ r. ⌜ (answerOf r (now (slots .entry)) (now (names .entry)) ≡ onScope (lent s (now (slots .entry)) (now (names .entry))) spec.pop) × Whole r (now (slots .entry)) (now (names .entry)) ⌝ }
 {
     if broken::is_broken(s, slots, names) {
-        return Changed::Refused(10);
+        return Changed::Refused(Refusal::BROKEN_SCOPE);
     }
     if s.contexts == 0 {
         return Changed::Done(s);
@@ -47,14 +53,14 @@ pub fn pop(s: Scope, slots: &[[u32; 4]], names: &[[u32; 128]]) -> Changed
 }
 
 // Pushes an empty context. Nothing is written.
-pub fn push_default(s: Scope, slots: &[[u32; 4]], names: &[[u32; 128]]) -> Changed
+pub fn push_default(s: Scope, slots: &[[u32; 4]], names: &[[u32; Scope::MAX_NAME]]) -> Changed
     ensures { λ r. ⌜ (answerOf r (now (slots .entry)) (now (names .entry)) ≡ onScope (lent s (now (slots .entry)) (now (names .entry))) spec.pushDefault) × Whole r (now (slots .entry)) (now (names .entry)) ⌝ }
 {
     if broken::is_broken(s, slots, names) {
-        return Changed::Refused(10);
+        return Changed::Refused(Refusal::BROKEN_SCOPE);
     }
     if Scope::MAX_CONTEXTS <= s.contexts {
-        return Changed::Refused(11);
+        return Changed::Refused(Refusal::OVER_LIMIT);
     }
     Changed::Done(Scope {
         contexts: s.contexts + 1,
