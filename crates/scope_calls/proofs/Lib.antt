@@ -6,5 +6,7 @@ pub mod SettlesLaws
 pub mod NamingLaws
 pub mod NameCallLaws
 pub mod DeeperLaws
+pub mod ParentLaws
+pub mod FirstLaws
 pub mod UnbrokenLaws
 pub mod WholeLaws

@@ -1,2 +1,4 @@
 pub mod Written
 pub mod Naming
+pub mod Parented
+pub mod Firsts

@@ -12,6 +12,8 @@ ghost use Rattle.scope.specs.Broken as spec;
 ghost use Rattle.scope.specs.Lent.{spanned, listed, anyOutside};
 ghost use Rattle.scope.specs.Rows.{earlier};
 ghost use Rattle.scope.specs.Listing as listing;
+ghost use Rattle.scope_calls.specs.Parented.{Parented};
+ghost use Rattle.scope_calls.specs.Firsts as firsts;
 use scope::broken;
 use scope::compare;
 use scope::scope::Kind;
@@ -38,9 +40,9 @@ pub fn any_outside(list: &[[u32; 4]], cells: &[u32]) -> bool
     false
 }
 
-// Whether the entry at i stands below another entry's depth without having a parent.
+// Whether the entry at i stands below another entry's depth without having a parent. Since all before it have theirs, the row before decides.
 fn is_orphan(list: &[[u32; 4]], cells: &[u32], i: usize) -> bool
-    requires { ⌜ i < length (now list) ⌝ }
+    requires { ⌜ (i < length (now list)) × ((k : ℕ) → Parented (earlier i (listed k (now cells) (now list)) [])) ⌝ }
     ensures { λ r. ⌜ ((k : ℕ) → r ≡ (ltb 0 (spanned k (now (cells .entry)) (getD (now (list .entry)) i []) .depth)
         && not (spec.hasParent (spanned k (now (cells .entry)) (getD (now (list .entry)) i [])) (earlier i (listed k (now (cells .entry)) (now (list .entry))) [])))) ⌝ }
 {
@@ -48,18 +50,17 @@ fn is_orphan(list: &[[u32; 4]], cells: &[u32], i: usize) -> bool
     if depth == 0 {
         return false;
     }
-    let mut j = i;
-    while 0 < j {
-        let row = list[j - 1];
-        if row[0] == depth - 1 {
-            return row[1] != Kind::CONTEXT;
-        }
-        if row[0] < depth {
-            return true;
-        }
-        j -= 1;
+    if i == 0 {
+        return true;
     }
-    true
+    let row = list[i - 1];
+    if depth <= row[0] {
+        return false;
+    }
+    if row[0] < depth - 1 {
+        return true;
+    }
+    row[1] != Kind::CONTEXT
 }
 
 // Whether the span is no name.
@@ -72,7 +73,7 @@ fn is_broken_span(cells: &[u32], start: usize, n: usize) -> bool
 
 // Whether the entry at i is broken, where depths up to `most` are in range.
 fn is_broken_row(list: &[[u32; 4]], cells: &[u32], i: usize, most: u32) -> bool
-    requires { ⌜ (i < length (now list)) × (anyOutside (now cells) (now list) ≡ false) ⌝ }
+    requires { ⌜ (i < length (now list)) × (anyOutside (now cells) (now list) ≡ false) × ((k : ℕ) → Parented (earlier i (listed k (now cells) (now list)) [])) ⌝ }
     ensures { λ r. ⌜ ((k : ℕ) → r ≡ listing.isBrokenTo most (spanned k (now (cells .entry)) (getD (now (list .entry)) i [])) (earlier i (listed k (now (cells .entry)) (now (list .entry))) [])) ⌝ }
 {
     if most < list[i][0] {
@@ -178,7 +179,62 @@ pub fn counted(kept: bool) -> usize
     0
 }
 
+// Whether the name of the entry at i stood before at its level.
+fn is_seen(list: &[[u32; 4]], cells: &[u32], i: usize) -> bool
+    requires { ⌜ (i < length (now list)) × (anyOutside (now cells) (now list) ≡ false) ⌝ }
+    ensures { λ r. ⌜ ((k : ℕ) → r ≡ isRepeated (spanned k (now (cells .entry)) (getD (now (list .entry)) i [])) (earlier i (listed k (now (cells .entry)) (now (list .entry))) [])) ⌝ }
+{
+    let mut j = i;
+    while 0 < j {
+        j -= 1;
+        if list[j][0] < list[i][0] {
+            return false;
+        }
+        if is_same_row(list, cells, i, j) {
+            return true;
+        }
+    }
+    false
+}
+
+// 1 for an entry that is not cut off and whose name did not stand before.
+fn fresh(list: &[[u32; 4]], cells: &[u32], i: usize, cut: u32) -> usize
+    requires { ⌜ (i < length (now list)) × (anyOutside (now cells) (now list) ≡ false) ⌝ }
+    ensures { λ r. ⌜ ((k : ℕ) → r ≡ firsts.fresh cut (spanned k (now (cells .entry)) (getD (now (list .entry)) i [])) (earlier i (listed k (now (cells .entry)) (now (list .entry))) [])) × (r ≤ 1) ⌝ }
+{
+    if cut <= list[i][0] {
+        return 0;
+    }
+    if is_seen(list, cells, i) {
+        return 0;
+    }
+    1
+}
+
+// The cut behind the entry at i; whether it is replaced is asked only if something stands below it.
+fn cut_behind(list: &[[u32; 4]], cells: &[u32], i: usize, cut: u32) -> u32
+    requires { ⌜ (i < length (now list)) × (anyOutside (now cells) (now list) ≡ false) ⌝ }
+    ensures { λ r. ⌜ ((k : ℕ) → r ≡ firsts.cutBehind cut (spanned k (now (cells .entry)) (getD (now (list .entry)) i [])) (drop (i + 1) (listed k (now (cells .entry)) (now (list .entry))))) ⌝ }
+{
+    let depth = list[i][0];
+    if cut <= depth {
+        return cut;
+    }
+    if list.len() <= i + 1 {
+        return NO_CUT;
+    }
+    if list[i + 1][0] <= depth {
+        return NO_CUT;
+    }
+    if is_repeated(list, cells, i) {
+        return depth + 1;
+    }
+    NO_CUT
+}
+
 // How many entries are left after replacing, counted up to the first number that no scope has room for: every larger one is refused alike.
+// Names are counted where they are first seen, so that no more than that many are ever searched for.
+// Ruled out, among others: the limit counted before replacing; 513 different names taken for 512.
 pub fn remaining(list: &[[u32; 4]], cells: &[u32]) -> usize
     requires { ⌜ anyOutside (now cells) (now list) ≡ false ⌝ }
     ensures { λ r. ⌜ ((k : ℕ) → r ≡ min (suc maxEntries) (length (settled (listed k (now (cells .entry)) (now (list .entry)))))) ⌝ }
@@ -190,9 +246,8 @@ pub fn remaining(list: &[[u32; 4]], cells: &[u32]) -> usize
         if Scope::MAX_ENTRIES < n {
             return n;
         }
-        let kept = stays(list, cells, i, cut);
-        n += counted(kept);
-        cut = cut_after(cut, list[i][0], kept);
+        n += fresh(list, cells, i, cut);
+        cut = cut_behind(list, cells, i, cut);
         i += 1;
     }
     n

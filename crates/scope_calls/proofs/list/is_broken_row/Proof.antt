@@ -40,7 +40,7 @@ returns-2 : tie.Need-returns-2
 returns-2 c = let a = c .before .before .before .before .before .args in λ k. sym (row-kind (a .most) (spanned k (a .cells .now) (getD (a .list .now) (a .i) [])) (earlier (a .i) (listed k (a .cells .now) (a .list .now)) []) (c .before .before .if1 .left) (c .if2 .taken))
 
 is-orphan-requires : tie.Need-is-orphan-requires
-is-orphan-requires c κs = search needs
+is-orphan-requires c κs = (omega arith, c .before .before .before .before .before .pre .2)
 
 returns-3 : tie.Need-returns-3
 returns-3 c = let a = c .before .before .before .before .before .before .before .args in λ k. sym (row-orphan (a .most) (spanned k (a .cells .now) (getD (a .list .now) (a .i) [])) (earlier (a .i) (listed k (a .cells .now) (a .list .now)) []) (c .before .before .before .before .if1 .left) (c .before .before .if2 .left) (c .before .is-orphan .ensures k) (c .if3 .taken))

@@ -1,54 +1,42 @@
--- So many stay among those passed; no more than one over the limit are counted.
-use mathlib.Core.Path.{_≡_, ap}
+-- So many names were first seen among those passed; no more than one over the limit are counted.
+use mathlib.Core.Path.{_≡_}
+use mathlib.Core.List.{[]}
 use Prim.Native.Nat.{ℕ, suc, _+_, _-_, _≤_}
 use lib.ListN.{length, drop}
 use Rattle.scope.specs.Limits.{maxEntries}
-use Rattle.scope.specs.Settled.{settled, settledFrom}
+use Rattle.scope.specs.Settled.{settled}
 use Rattle.scope.specs.Lent.{listed}
-use Rattle.scope.specs.Listing.{stays}
-use Rattle.scope.proofs.ListLaws.{settled-end, count-step}
+use Rattle.scope.specs.Rows.{earlier}
+use Rattle.scope_calls.specs.Firsts.{firsts}
+use Rattle.scope_calls.proofs.FirstLaws.{firsts-all, firsts-step, firsts-end}
 use native.Mathlib.Omega.{arith}
-use borrow.Author.Needs.{needs}
 use Rattle.scope_calls.proofs.list.remaining.Statement.{statement}
 use Rattle.scope_calls.proofs.list.remaining.Tie as tie
 use Rattle.scope_calls.proofs.list.remaining.Reads as reads
 use Rattle.scope_calls.proofs.list.remaining.Lts as lts
-use Rattle.scope_calls.proofs.list.counted.Reads as counted-reads
-use Rattle.scope_calls.proofs.list.cut_after.Reads as cut-after-reads
-use Rattle.scope_calls.proofs.list.stays.Reads as stays-reads
+use Rattle.scope_calls.proofs.list.cut_behind.Reads as cut-behind-reads
+use Rattle.scope_calls.proofs.list.fresh.Reads as fresh-reads
 
 abbrev Inv-loop : tie.InvT-loop
-Inv-loop list cells n₀ cut₀ i₀ n cut i = (n ≤ suc maxEntries) × (i ≤ length list) × ((k : ℕ) → n + length (settledFrom cut (drop i (listed k cells list))) ≡ length (settled (listed k cells list)))
+Inv-loop list cells n₀ cut₀ i₀ n cut i = (n ≤ suc maxEntries) × (i ≤ length list) × ((k : ℕ) → n + firsts cut (earlier i (listed k cells list) []) (drop i (listed k cells list)) ≡ length (settled (listed k cells list)))
 
 abbrev μ-loop : tie.MeasureT-loop
 μ-loop list cells n₀ cut₀ i₀ n cut i = length list - i
 
 loop-holds : tie.Need-loop-holds Inv-loop μ-loop
-loop-holds c = (omega arith, omega arith, λ k. omega arith)
+loop-holds c = let a = c .before .args in (omega arith, omega arith, λ k. omega (arith, firsts-all k (a .cells .now) (a .list .now)))
 
 returns : tie.Need-returns Inv-loop μ-loop
 returns c = λ k. omega (arith, c .before .before .loop .inv .2 k)
 
-stays-requires : tie.Need-stays-requires Inv-loop μ-loop
-stays-requires c κs = (omega arith, c .before .before .before .before .pre)
-
-counted-requires : tie.Need-counted-requires Inv-loop μ-loop
-counted-requires c κs = search needs
+fresh-requires : tie.Need-fresh-requires Inv-loop μ-loop
+fresh-requires c κs = (omega arith, c .before .before .before .before .pre)
 
 add-n : tie.Need-add-n Inv-loop μ-loop
 add-n c = omega arith
 
-mul-cut-after : tie.Need-mul-cut-after Inv-loop μ-loop
-mul-cut-after c = omega arith
-
-index-1-cut-after : tie.Need-index-1-cut-after Inv-loop μ-loop
-index-1-cut-after c = omega arith
-
-index-2-cut-after : tie.Need-index-2-cut-after Inv-loop μ-loop
-index-2-cut-after c = omega arith
-
-cut-after-requires : tie.Need-cut-after-requires Inv-loop μ-loop
-cut-after-requires c κs = search needs
+cut-behind-requires : tie.Need-cut-behind-requires Inv-loop μ-loop
+cut-behind-requires c κs = (omega arith, c .before .before .before .before .before .pre)
 
 add-i : tie.Need-add-i Inv-loop μ-loop
 add-i c = omega arith
@@ -57,10 +45,10 @@ loop-less : tie.Need-loop-less Inv-loop μ-loop
 loop-less c = omega arith
 
 loop-again : tie.Need-loop-again Inv-loop μ-loop
-loop-again c = let a = c .before .before .before .before .before .before .before .before .args in (omega arith, omega arith, λ k. omega (arith, c .before .before .before .before .before .before .loop .inv .2 k, count-step (c .before .before .before .before .before .before .loop .cut) k (a .cells .now) (a .list .now) (c .before .before .before .before .before .before .loop .i) (omega arith) (c .before .before .before .stays .ensures k) (c .cut-after .ensures) (c .before .before .counted .ensures .0)))
+loop-again c = let a = c .before .before .before .before .before .before .args in (omega arith, omega arith, λ k. omega (arith, c .before .before .before .before .loop .inv .2 k, firsts-step k (a .cells .now) (a .list .now) (c .before .before .before .before .loop .cut) (c .before .before .before .before .loop .i) (omega arith) (c .before .fresh .ensures .0 k) (c .cut-behind .ensures k)))
 
 returns-2 : tie.Need-returns-2 Inv-loop μ-loop
-returns-2 c = let a = c .before .before .before .args in λ k. omega (arith, c .before .loop .inv .2 k, ap length (settled-end (c .before .loop .cut) k (a .cells .now) (a .list .now) (c .before .loop .i) (omega arith)))
+returns-2 c = let a = c .before .before .before .args in λ k. omega (arith, c .before .loop .inv .2 k, firsts-end k (a .cells .now) (a .list .now) (c .before .loop .cut) (c .before .loop .i) (omega arith))
 
 pub remaining-spec : {M : Type 1} → statement M
 remaining-spec =
@@ -70,13 +58,9 @@ remaining-spec =
     μ-loop
     loop-holds
     returns
-    stays-requires
-    counted-requires
+    fresh-requires
     add-n
-    mul-cut-after
-    index-1-cut-after
-    index-2-cut-after
-    cut-after-requires
+    cut-behind-requires
     add-i
     loop-less
     loop-again
