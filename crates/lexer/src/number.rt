@@ -10,6 +10,7 @@ ghost use Rattle.reading.specs.Slices.{Wrote};
 ghost use Rattle.text.specs.Limits.{maxChars};
 ghost use Rattle.lexer.specs.Number.{orZero};
 ghost use Rattle.lexer.specs.Numerals.{Signed, Exponented, Numbered, digitsOf};
+use text::chars::Char;
 
 // Whether the sign is a minus, and the place behind it.
 pub struct Sign {
@@ -21,13 +22,13 @@ fn read_sign(rest: &[u32], i: usize) -> Sign
     requires { ⌜ i ≤ length (now rest) ⌝ }
     ensures { λ r. ⌜ Signed (now (rest .entry)) i (r .minus) (r .end) ⌝ }
 {
-    if crate::look::is_at(rest, i, 0x2B) {
+    if crate::look::is_at(rest, i, Char::PLUS) {
         return Sign {
             minus: false,
             end: i + 1,
         };
     }
-    if crate::look::is_at(rest, i, 0x2D) {
+    if crate::look::is_at(rest, i, Char::MINUS) {
         return Sign {
             minus: true,
             end: i + 1,
@@ -42,10 +43,10 @@ fn read_sign(rest: &[u32], i: usize) -> Sign
 fn exponent_letter_at(rest: &[u32], i: usize) -> bool
     ensures { λ r. ⌜ r ≡ is 0x65 (cellAt (now (rest .entry)) i) || is 0x45 (cellAt (now (rest .entry)) i) ⌝ }
 {
-    if crate::look::is_at(rest, i, 0x65) {
+    if crate::look::is_at(rest, i, Char::SMALL_E) {
         return true;
     }
-    crate::look::is_at(rest, i, 0x45)
+    crate::look::is_at(rest, i, Char::CAPITAL_E)
 }
 
 // The exponent's sign, and where its digits begin and end.
@@ -95,7 +96,7 @@ pub fn read_number(rest: &[u32], i: usize) -> Number
     ensures { λ r. ⌜ Numbered (now (rest .entry)) i r ⌝ }
 {
     let b = crate::look::digits(rest, i);
-    if !crate::look::is_at(rest, b, 0x2E) {
+    if !crate::look::is_at(rest, b, Char::DOT) {
         let e = read_exponent(rest, b);
         return Number {
             before: b,
@@ -137,7 +138,7 @@ fn write_before(rest: &[u32], i: usize, end: usize, out: &mut [u32]) -> usize
     ensures { λ r. ⌜ Wrote (now (out .entry)) (orZero (part (now (rest .entry)) i end)) r (now (out .exit)) ⌝ }
 {
     if end <= i {
-        out[0] = 0x30;
+        out[0] = Char::DIGIT_0;
         return 1;
     }
     names::name::copy(rest, i, end, out, 0)

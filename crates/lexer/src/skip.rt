@@ -11,6 +11,7 @@ ghost use Rattle.text.specs.Limits.{maxChars};
 ghost use Rattle.lexer.specs.Skip as spec;
 ghost use Rattle.lexer.specs.Token.{fuel};
 ghost use Rattle.lexer.specs.Answers.{BlockEnds, Commented};
+use text::chars::Char;
 
 // Whether the cell i is there and is no line's end.
 fn in_line_at(rest: &[u32], i: usize) -> bool
@@ -19,7 +20,7 @@ fn in_line_at(rest: &[u32], i: usize) -> bool
     if rest.len() <= i {
         return false;
     }
-    rest[i] != 0x0A
+    rest[i] != Char::LINE_FEED
 }
 
 // The end of the line that holds i.
@@ -39,8 +40,8 @@ fn ends_at(rest: &[u32], i: usize) -> bool
     requires { ⌜ i ≤ length (now rest) ⌝ }
     ensures { λ r. ⌜ r ≡ is 0x2A (cellAt (now (rest .entry)) i) && is 0x2F (cellAt (now (rest .entry)) (i + 1)) ⌝ }
 {
-    if crate::look::is_at(rest, i, 0x2A) {
-        return crate::look::is_at(rest, i + 1, 0x2F);
+    if crate::look::is_at(rest, i, Char::STAR) {
+        return crate::look::is_at(rest, i + 1, Char::SLASH);
     }
     false
 }
@@ -70,14 +71,14 @@ fn comment(rest: &[u32], i: usize) -> Found
     requires { ⌜ (length (now rest) ≤ maxChars) × (i ≤ length (now rest)) ⌝ }
     ensures { λ r. ⌜ Commented (now (rest .entry)) i r ⌝ }
 {
-    if !crate::look::is_at(rest, i, 0x2F) {
+    if !crate::look::is_at(rest, i, Char::SLASH) {
         return Found::Nothing;
     }
-    if crate::look::is_at(rest, i + 1, 0x2F) {
+    if crate::look::is_at(rest, i + 1, Char::SLASH) {
         let j = line_end(rest, i + 2);
         return Found::At(j);
     }
-    if crate::look::is_at(rest, i + 1, 0x2A) {
+    if crate::look::is_at(rest, i + 1, Char::STAR) {
         let j = block_end(rest, i + 2);
         return Found::At(j);
     }

@@ -2,7 +2,7 @@
 ghost use mathlib.Core.Path.{_≡_};
 ghost use mathlib.Core.Bool.{true, _||_};
 ghost use mathlib.Core.List.{List, []};
-ghost use Prim.Native.Nat.{ℕ, _+_, _≤_, _<_};
+ghost use Prim.Native.Nat.{ℕ, _+_, _-_, _*_, _≤_, _<_};
 ghost use lib.Dec.{eqb};
 ghost use lib.ListN.{length};
 ghost use Rattle.reading.specs.Goes.{Goes};
@@ -12,6 +12,23 @@ ghost use Rattle.lexer.specs.Read as read;
 ghost use Rattle.lexer.specs.Text as spec;
 ghost use Rattle.lexer.specs.Token.{fuel};
 ghost use Rattle.lexer.specs.Pieces.{asPlain, Hexed, Pieced, Plain, Inside, Written};
+use text::chars::Char;
+use text::refusal::Refusal;
+
+// The halves of pairs, each with ten bits of the character, the first character that takes a pair, and the last of all.
+const FIRST_HALF: u32 = 0xD800;
+
+const LAST_FIRST_HALF: u32 = 0xDBFF;
+
+const SECOND_HALF: u32 = 0xDC00;
+
+const LAST_SECOND_HALF: u32 = 0xDFFF;
+
+const HALVES: u32 = 0x400;
+
+const FIRST_PAIRED: u32 = 0x10000;
+
+const LAST_SCALAR: u32 = 0x10FFFF;
 
 // The value of hexadecimal digits; or number, carry and place of a refusal.
 pub enum Hex {
@@ -29,12 +46,12 @@ fn read_hex(rest: &[u32], from: usize, count: usize) -> Hex
     let mut left = count;
     while 0 < left {
         if rest.len() <= at {
-            return Hex::NoDigit(4, 0, at);
+            return Hex::NoDigit(Refusal::END_AT_HEX_DIGIT, 0, at);
         }
         let c = rest[at];
         let d = text::hex::hex_to_decimal(c);
         if 16 <= d {
-            return Hex::NoDigit(3, c, at);
+            return Hex::NoDigit(Refusal::NO_HEX_DIGIT, c, at);
         }
         value = value * 16 + d;
         at += 1;
@@ -56,10 +73,18 @@ pub enum Piece {
 fn digit_count(x: u32) -> usize
     ensures { λ r. ⌜ (r ≡ spec.digitCount x) × (0 < r) × (r ≤ 6) ⌝ }
 {
-    if 0x55 == x {
+    if Char::CAPITAL_U == x {
         return 6;
     }
     4
+}
+
+// The character of a pair: ten bits of each half.
+fn paired(h: u32, l: u32) -> u32
+    requires { ⌜ (0xD800 ≤ h) × (h ≤ 0xDBFF) × (0xDC00 ≤ l) × (l ≤ 0xDFFF) ⌝ }
+    ensures { λ r. ⌜ r ≡ 0x10000 + (h - 0xD800) * 0x400 + (l - 0xDC00) ⌝ }
+{
+    FIRST_PAIRED + (h - FIRST_HALF) * HALVES + l % HALVES
 }
 
 // The second half of a pair, whose first half is h and ended at i.
@@ -68,19 +93,19 @@ fn read_second_half(rest: &[u32], h: u32, i: usize) -> Piece
     ensures { λ r. ⌜ Pieced (now (rest .entry)) i (λ _. spec.readSecondHalf h i) i r ⌝ }
 {
     if rest.len() <= i + 1 {
-        return Piece::Refused(7, 0, i, i + 2);
+        return Piece::Refused(Refusal::END_AT_SECOND_HALF, 0, i, i + 2);
     }
     let n = digit_count(rest[i + 1]);
     let r = read_hex(rest, i + 2, n);
     match r {
         Hex::Value(l) => {
-            if l < 0xDC00 {
-                return Piece::Refused(6, l, i + 2 + n, i + 2 + n);
+            if l < SECOND_HALF {
+                return Piece::Refused(Refusal::NO_SECOND_HALF, l, i + 2 + n, i + 2 + n);
             }
-            if 0xDFFF < l {
-                return Piece::Refused(6, l, i + 2 + n, i + 2 + n);
+            if LAST_SECOND_HALF < l {
+                return Piece::Refused(Refusal::NO_SECOND_HALF, l, i + 2 + n, i + 2 + n);
             }
-            Piece::Char(0x10000 + (h - 0xD800) * 0x400 + (l - 0xDC00), i + 2 + n)
+            Piece::Char(paired(h, l), i + 2 + n)
         }
         Hex::NoDigit(m, k, j) => Piece::Refused(m, k, j, j + 1),
     }
@@ -94,17 +119,17 @@ fn read_unicode(rest: &[u32], i: usize, n: usize) -> Piece
     let r = read_hex(rest, i, n);
     match r {
         Hex::Value(v) => {
-            if v < 0xD800 {
+            if v < FIRST_HALF {
                 return Piece::Char(v, i + n);
             }
-            if v <= 0xDBFF {
+            if v <= LAST_FIRST_HALF {
                 return read_second_half(rest, v, i + n);
             }
-            if v <= 0xDFFF {
-                return Piece::Refused(5, v, i + n, i + n);
+            if v <= LAST_SECOND_HALF {
+                return Piece::Refused(Refusal::NO_SCALAR_VALUE, v, i + n, i + n);
             }
-            if 0x10FFFF < v {
-                return Piece::Refused(5, v, i + n, i + n);
+            if LAST_SCALAR < v {
+                return Piece::Refused(Refusal::NO_SCALAR_VALUE, v, i + n, i + n);
             }
             Piece::Char(v, i + n)
         }
@@ -116,23 +141,23 @@ fn read_unicode(rest: &[u32], i: usize, n: usize) -> Piece
 fn plain_escape(c: u32) -> u32
     ensures { λ r. ⌜ spec.plainEscape c ≡ asPlain r ⌝ }
 {
-    if 0x27 == c {
-        return 0x27;
+    if Char::APOSTROPHE == c {
+        return Char::APOSTROPHE;
     }
-    if 0x22 == c {
-        return 0x22;
+    if Char::QUOTE == c {
+        return Char::QUOTE;
     }
-    if 0x5C == c {
-        return 0x5C;
+    if Char::BACKSLASH == c {
+        return Char::BACKSLASH;
     }
-    if 0x6E == c {
-        return 0x0A;
+    if Char::SMALL_N == c {
+        return Char::LINE_FEED;
     }
-    if 0x72 == c {
-        return 0x0D;
+    if Char::SMALL_R == c {
+        return Char::CARRIAGE_RETURN;
     }
-    if 0x74 == c {
-        return 0x09;
+    if Char::SMALL_T == c {
+        return Char::TAB;
     }
     0
 }
@@ -140,10 +165,10 @@ fn plain_escape(c: u32) -> u32
 fn is_unicode_letter(c: u32) -> bool
     ensures { λ r. ⌜ r ≡ eqb 0x75 c || eqb 0x55 c ⌝ }
 {
-    if 0x75 == c {
+    if Char::SMALL_U == c {
         return true;
     }
-    0x55 == c
+    Char::CAPITAL_U == c
 }
 
 // An escape whose backslash stands at i and whose letter is c.
@@ -159,7 +184,7 @@ fn read_escape(rest: &[u32], c: u32, i: usize) -> Piece
         let n = digit_count(c);
         return read_unicode(rest, i + 2, n);
     }
-    Piece::Char(0x5C, i + 1)
+    Piece::Char(Char::BACKSLASH, i + 1)
 }
 
 // The piece of a string's inside at i.
@@ -171,13 +196,13 @@ fn read_piece(rest: &[u32], i: usize) -> Piece
         return Piece::TextEnd(i);
     }
     let x = rest[i];
-    if 0x5C == x {
+    if Char::BACKSLASH == x {
         if rest.len() <= i + 1 {
-            return Piece::Char(0x5C, i + 1);
+            return Piece::Char(Char::BACKSLASH, i + 1);
         }
         return read_escape(rest, rest[i + 1], i);
     }
-    if 0x22 == x {
+    if Char::QUOTE == x {
         return Piece::Quote(i + 1);
     }
     if text::classes::is_vertical_space(x) {
@@ -194,10 +219,10 @@ fn plain_at(rest: &[u32], i: usize) -> bool
         return false;
     }
     let x = rest[i];
-    if 0x5C == x {
+    if Char::BACKSLASH == x {
         return false;
     }
-    if 0x22 == x {
+    if Char::QUOTE == x {
         return false;
     }
     !text::classes::is_vertical_space(x)

@@ -28,6 +28,8 @@ use lexer::token::Outcome;
 use lexer::token::Read;
 use lexer::token_type::TokenType;
 use scope::scope::Scope;
+use text::chars::Char;
+use text::refusal::Refusal;
 
 // Whether the next part from i on is the word.
 fn next_is(rest: &[u32], i: usize, word: &[u8]) -> bool
@@ -142,7 +144,7 @@ fn is_temporal(name: &[u32], rest: &[u32], end: usize) -> bool
     ensures { λ r. ⌜ r ≡ member (now (name .entry)) temporalNames && is 0x28 (cellAt (now (rest .entry)) end) ⌝ }
 {
     if names::fixed::is_built_in_date_time_function_name(name) {
-        return lexer::look::is_at(rest, end, 0x28);
+        return lexer::look::is_at(rest, end, Char::LEFT_PAREN);
     }
     false
 }
@@ -193,7 +195,7 @@ fn by_prefix(
     flags: Flags,
     s: Scope,
     slots: &[[u32; 4]],
-    names: &[[u32; 128]],
+    names: &[[u32; Scope::MAX_NAME]],
     cap: usize,
     out: &mut [u32],
     scratch: &mut [u32],
@@ -222,7 +224,7 @@ fn by_colon(
     flags: Flags,
     s: Scope,
     slots: &[[u32; 4]],
-    names: &[[u32; 128]],
+    names: &[[u32; Scope::MAX_NAME]],
     cap: usize,
     out: &mut [u32],
     scratch: &mut [u32],
@@ -231,7 +233,7 @@ fn by_colon(
     ensures { λ r. ⌜ Gives (byInOf (flagsOf flags) (isName (scopeOf (lent s (now (slots .entry)) (now (names .entry))))) (now (rest .entry)) from n end none) (end + 1) (now (out .entry)) r (now (out .exit))
         × (now (scratch .exit) ≡ now (scratch .entry)) ⌝ }
 {
-    if lexer::look::is_at(rest, end, 0x3A) {
+    if lexer::look::is_at(rest, end, Char::COLON) {
         return named(rest, from, n, n, end, TokenType::NAME, flags, end + 1, out);
     }
     by_prefix(
@@ -258,7 +260,7 @@ fn by_in(
     flags: Flags,
     s: Scope,
     slots: &[[u32; 4]],
-    names: &[[u32; 128]],
+    names: &[[u32; Scope::MAX_NAME]],
     cap: usize,
     out: &mut [u32],
     scratch: &mut [u32],
@@ -300,7 +302,7 @@ fn by_in(
     }
     if m == 0 {
         return Outcome {
-            read: Read::Refused(8, 0),
+            read: Read::Refused(Refusal::STARTS_WITH_IN, 0),
             used: from,
             flags,
             reach: end + 1,
@@ -317,7 +319,7 @@ pub fn read_name(
     flags: Flags,
     s: Scope,
     slots: &[[u32; 4]],
-    names: &[[u32; 128]],
+    names: &[[u32; Scope::MAX_NAME]],
     cap: usize,
     out: &mut [u32],
     scratch: &mut [u32],

@@ -34,7 +34,13 @@ pub struct Finding {
 }
 
 // Asks for a flattened text. A property counts as one even if the scope has its name.
-fn find(text: &[u32], flags: Flags, s: Scope, slots: &[[u32; 4]], names: &[[u32; 128]]) -> Finding
+fn find(
+    text: &[u32],
+    flags: Flags,
+    s: Scope,
+    slots: &[[u32; 4]],
+    names: &[[u32; Scope::MAX_NAME]],
+) -> Finding
     requires { ⌜ isBroken (lent s (now slots) (now names)) ≡ false ⌝ }
     ensures { λ r. ⌜ Asked (flagsOf flags) (isName (scopeOf (lent s (now (slots .entry)) (now (names .entry))))) (now (text .entry)) (r .found) (r .property) ⌝ }
 {
@@ -66,7 +72,7 @@ fn find_parts(
     flags: Flags,
     s: Scope,
     slots: &[[u32; 4]],
-    names: &[[u32; 128]],
+    names: &[[u32; Scope::MAX_NAME]],
     scratch: &mut [u32],
 ) -> Finding
     requires { ⌜ (from ≤ length (now rest)) × (2 * length (now rest) ≤ length (now scratch)) × (isBroken (lent s (now slots) (now names)) ≡ false) × Clear (now scratch) ⌝ }
@@ -94,7 +100,7 @@ fn longest(
     flags: Flags,
     s: Scope,
     slots: &[[u32; 4]],
-    names: &[[u32; 128]],
+    names: &[[u32; Scope::MAX_NAME]],
     scratch: &mut [u32],
 ) -> Prefix
     requires { ⌜ (from ≤ length (now rest)) × (2 * length (now rest) ≤ length (now scratch)) × (isBroken (lent s (now slots) (now names)) ≡ false) × Clear (now scratch) ⌝ }
@@ -138,7 +144,7 @@ pub fn longest_prefix(
     flags: Flags,
     s: Scope,
     slots: &[[u32; 4]],
-    names: &[[u32; 128]],
+    names: &[[u32; Scope::MAX_NAME]],
     cap: usize,
     scratch: &mut [u32],
 ) -> Prefix

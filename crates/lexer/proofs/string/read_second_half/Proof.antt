@@ -7,6 +7,7 @@ use Rattle.lexer.proofs.string.read_second_half.Tie as tie
 use Rattle.lexer.proofs.string.read_second_half.Reads as reads
 use Rattle.lexer.proofs.string.read_second_half.Lts as lts
 use Rattle.lexer.proofs.string.digit_count.Reads as digit-count-reads
+use Rattle.lexer.proofs.string.paired.Reads as paired-reads
 use Rattle.lexer.proofs.string.read_hex.Reads as read-hex-reads
 
 add-if1 : tie.Need-add-if1
@@ -69,32 +70,23 @@ add-t25 c = search needs
 returns-3 : tie.Need-returns-3
 returns-3 c = let k = c .before .before .before .before .before in second-high _ _ _ (omega arith) (k .before .digit-count .ensures .0) (k .read-hex .ensures) (c .before .before .before .r .given .1) (omega arith) (c .if3 .taken)
 
-sub-t26 : tie.Need-sub-t26
-sub-t26 c = search needs
+paired-requires : tie.Need-paired-requires
+paired-requires c κs = search needs
 
-mul-t27 : tie.Need-mul-t27
-mul-t27 c = search needs
+add-t27 : tie.Need-add-t27
+add-t27 c = search needs
 
 add-t28 : tie.Need-add-t28
 add-t28 c = search needs
 
-add-t30 : tie.Need-add-t30
-add-t30 c = search needs
-
-add-t31 : tie.Need-add-t31
-add-t31 c = search needs
-
-add-t32 : tie.Need-add-t32
-add-t32 c = search needs
-
 enum-known-r-2 : tie.Need-enum-known-r-2
 enum-known-r-2 c = search needs
 
-add-t33 : tie.Need-add-t33
-add-t33 c = omega (arith, bad-within (c .before .before .before .read-hex .ensures) (c .before .r2 .given .1))
+add-t29 : tie.Need-add-t29
+add-t29 c = omega (arith, bad-within (c .before .before .before .read-hex .ensures) (c .before .r2 .given .1))
 
 returns-4 : tie.Need-returns-4
-returns-4 c = let k = c .before .before .before .before .before in second-one _ _ _ (omega arith) (k .before .digit-count .ensures .0) (k .read-hex .ensures) (c .before .before .before .r .given .1) (omega arith) (omega arith)
+returns-4 c = let k = c .before .before .before .before .before .before in rw (c .paired .ensures) (second-one _ _ _ (omega arith) (k .before .digit-count .ensures .0) (k .read-hex .ensures) (c .before .before .before .before .r .given .1) (omega arith) (omega arith))
 
 returns-5 : tie.Need-returns-5
 returns-5 c = let k = c .before .before .before in second-bad _ _ _ (omega arith) (k .before .digit-count .ensures .0) (k .read-hex .ensures) (c .before .r2 .given .1)
@@ -123,13 +115,10 @@ read-second-half-spec =
     add-t24
     add-t25
     returns-3
-    sub-t26
-    mul-t27
+    paired-requires
+    add-t27
     add-t28
-    add-t30
-    add-t31
-    add-t32
     enum-known-r-2
-    add-t33
+    add-t29
     returns-4
     returns-5)
