@@ -15,6 +15,7 @@ use lexer::flags::Flags;
 use lexer::look;
 use lexer::token_type::TokenType;
 use lexer::window;
+use text::chars::Char;
 
 // What must follow a word: in the window's next place, or behind optional whitespace.
 const SPACE: u32 = 1;
@@ -44,7 +45,9 @@ pub const FALSE: u32 = 1;
 pub const TRUE: u32 = 2;
 
 // Letters, with spaces behind them; and of each word the number of its letters, what must follow, when it is taken, type, value, and the next word that begins as it does.
-const WORDS: [[u8; 9]; 24] = [
+const COUNT: usize = 24;
+
+const WORDS: [[u8; 9]; COUNT] = [
     *b"satisfies",
     *b"external ",
     *b"function ",
@@ -71,7 +74,7 @@ const WORDS: [[u8; 9]; 24] = [
     *b"or       ",
 ];
 
-const WORD_ROWS: [[u32; 6]; 24] = [
+const WORD_ROWS: [[u32; 6]; COUNT] = [
     [9, SPACE, ALWAYS, TokenType::SATISFIES, NOTHING, 13],
     [8, SPACE, ALWAYS, TokenType::EXTERNAL, NOTHING, 7],
     [8, PAREN_OR_LESS, ALWAYS, TokenType::FUNCTION, NOTHING, 8],
@@ -98,24 +101,24 @@ const WORD_ROWS: [[u32; 6]; 24] = [
     [2, SPACE, ALWAYS, TokenType::OR, NOTHING, 24],
 ];
 
-// The first word that begins with x, 24 where none does.
+// The first word that begins with x, or how many they are.
 fn first_row(x: u32) -> usize
     ensures { λ r. ⌜ r ≡ placeOf initials x ⌝ }
 {
     match x {
-        0x61 => 16, // a
-        0x62 => 4, // b
-        0x63 => 5, // c
-        0x65 => 1, // e
-        0x66 => 2, // f
-        0x69 => 3, // i
-        0x6C => 12, // l
-        0x6E => 10, // n
-        0x6F => 22, // o
-        0x72 => 6, // r
-        0x73 => 0, // s
-        0x74 => 14, // t
-        _ => 24,
+        Char::SMALL_A => 16,
+        Char::SMALL_B => 4,
+        Char::SMALL_C => 5,
+        Char::SMALL_E => 1,
+        Char::SMALL_F => 2,
+        Char::SMALL_I => 3,
+        Char::SMALL_L => 12,
+        Char::SMALL_N => 10,
+        Char::SMALL_O => 22,
+        Char::SMALL_R => 6,
+        Char::SMALL_S => 0,
+        Char::SMALL_T => 14,
+        _ => COUNT,
     }
 }
 
@@ -124,23 +127,23 @@ fn symbol(c: u32) -> u32
     ensures { λ r. ⌜ Sign spec.symbols (c ∷ []) r ⌝ }
 {
     match c {
-        0x2E => TokenType::DOT,
-        0x2C => TokenType::COMMA,
-        0x3A => TokenType::COLON,
-        0x2B => TokenType::PLUS,
-        0x2D => TokenType::MINUS,
-        0x2A => TokenType::MUL,
-        0x2F => TokenType::DIV,
-        0x3D => TokenType::EQ,
-        0x3C => TokenType::LT,
-        0x3E => TokenType::GT,
-        0x28 => TokenType::LEFT_PAREN,
-        0x29 => TokenType::RIGHT_PAREN,
-        0x5B => TokenType::LEFT_BRACKET,
-        0x5D => TokenType::RIGHT_BRACKET,
-        0x7B => TokenType::LEFT_BRACE,
-        0x7D => TokenType::RIGHT_BRACE,
-        0x40 => TokenType::AT,
+        Char::DOT => TokenType::DOT,
+        Char::COMMA => TokenType::COMMA,
+        Char::COLON => TokenType::COLON,
+        Char::PLUS => TokenType::PLUS,
+        Char::MINUS => TokenType::MINUS,
+        Char::STAR => TokenType::MUL,
+        Char::SLASH => TokenType::DIV,
+        Char::EQUAL => TokenType::EQ,
+        Char::LESS => TokenType::LT,
+        Char::GREATER => TokenType::GT,
+        Char::LEFT_PAREN => TokenType::LEFT_PAREN,
+        Char::RIGHT_PAREN => TokenType::RIGHT_PAREN,
+        Char::LEFT_BRACKET => TokenType::LEFT_BRACKET,
+        Char::RIGHT_BRACKET => TokenType::RIGHT_BRACKET,
+        Char::LEFT_BRACE => TokenType::LEFT_BRACE,
+        Char::RIGHT_BRACE => TokenType::RIGHT_BRACE,
+        Char::AT => TokenType::AT,
         _ => 0,
     }
 }
@@ -160,12 +163,12 @@ fn pair(c: u32, d: u32) -> u32
     ensures { λ r. ⌜ Sign pairs (c ∷ d ∷ []) r ⌝ }
 {
     match c {
-        0x2E => only(0x2E == d, TokenType::ELLIPSIS),
-        0x2A => only(0x2A == d, TokenType::EXP),
-        0x21 => only(0x3D == d, TokenType::NE),
-        0x3C => only(0x3D == d, TokenType::LE),
-        0x3E => only(0x3D == d, TokenType::GE),
-        0x2D => only(0x3E == d, TokenType::RIGHT_ARROW),
+        Char::DOT => only(Char::DOT == d, TokenType::ELLIPSIS),
+        Char::STAR => only(Char::STAR == d, TokenType::EXP),
+        Char::EXCLAMATION_MARK => only(Char::EQUAL == d, TokenType::NE),
+        Char::LESS => only(Char::EQUAL == d, TokenType::LE),
+        Char::GREATER => only(Char::EQUAL == d, TokenType::GE),
+        Char::MINUS => only(Char::GREATER == d, TokenType::RIGHT_ARROW),
         _ => 0,
     }
 }
@@ -175,18 +178,18 @@ fn is_follower(follow: u32, c: u32) -> bool
     ensures { λ r. ⌜ r ≡ classOf follow c ⌝ }
 {
     if SPACE == follow {
-        return 0x20 == c;
+        return Char::SPACE == c;
     }
     if SEPARATOR == follow {
         return text::classes::is_separator(c);
     }
     if SPACE_OR_PAREN == follow {
-        return (0x20 == c) | (0x28 == c);
+        return (Char::SPACE == c) | (Char::LEFT_PAREN == c);
     }
     if LESS == follow {
-        return 0x3C == c;
+        return Char::LESS == c;
     }
-    (0x28 == c) | (0x3C == c)
+    (Char::LEFT_PAREN == c) | (Char::LESS == c)
 }
 
 fn follower_at(rest: &[u32], j: usize, follow: u32) -> bool
@@ -349,7 +352,7 @@ pub fn first_word(rest: &[u32], i: usize, c: u32, flags: Flags) -> Match
     ensures { λ m. ⌜ Matched spec.words (now (rest .entry)) (i + 12) i (windowOf 12 (now (rest .entry)) i) (flagsOf flags) m ⌝ }
 {
     let k = first_row(c);
-    if k < 24 {
+    if k < COUNT {
         let w = window::window(rest, i);
         return of_letters(k, w, rest, i, flags);
     }

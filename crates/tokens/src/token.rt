@@ -33,6 +33,7 @@ use lexer::token::Read;
 use lexer::token_type::TokenType;
 use lexer::window;
 use scope::scope::Scope;
+use text::chars::Char;
 
 // A token without a value.
 fn plain(kind: u32, used: usize, flags: Flags, reach: usize) -> Outcome
@@ -51,7 +52,7 @@ fn of_row(kind: u32, value: u32, used: usize, flags: Flags, reach: usize) -> Out
     ensures { λ r. ⌜ ((o : List ℕ) → Gives (spec.outcome (spec.token kind (valueOf value)) used (afterWord kind (flagsOf flags))) reach o r o) ⌝ }
 {
     let after = crate::keywords::after_word(kind, flags);
-    if 1 == value {
+    if crate::keywords::FALSE == value {
         return Outcome {
             read: Read::Boolean(false),
             used,
@@ -59,7 +60,7 @@ fn of_row(kind: u32, value: u32, used: usize, flags: Flags, reach: usize) -> Out
             reach,
         };
     }
-    if 2 == value {
+    if crate::keywords::TRUE == value {
         return Outcome {
             read: Read::Boolean(true),
             used,
@@ -146,7 +147,7 @@ fn other_cases(
     flags: Flags,
     s: Scope,
     slots: &[[u32; 4]],
-    names: &[[u32; 128]],
+    names: &[[u32; Scope::MAX_NAME]],
     cap: usize,
     out: &mut [u32],
     scratch: &mut [u32],
@@ -182,7 +183,7 @@ fn begins_with_point(rest: &[u32], i: usize, c: u32) -> bool
     requires { ⌜ i ≤ maxChars ⌝ }
     ensures { λ r. ⌜ r ≡ eqb 0x2E c && isDigit (shown (cellAt (now (rest .entry)) (i + 1))) ⌝ }
 {
-    if 0x2E == c {
+    if Char::DOT == c {
         return text::classes::is_digit(window::shown_at(rest, i + 1));
     }
     false
@@ -197,7 +198,7 @@ fn behind_words(
     flags: Flags,
     s: Scope,
     slots: &[[u32; 4]],
-    names: &[[u32; 128]],
+    names: &[[u32; Scope::MAX_NAME]],
     cap: usize,
     out: &mut [u32],
     scratch: &mut [u32],
@@ -209,7 +210,7 @@ fn behind_words(
     if begins_with_point(rest, i, c) {
         return number_at(rest, i, q, flags, out);
     }
-    if 0x22 == c {
+    if Char::QUOTE == c {
         return string_at(rest, i, q, flags, out);
     }
     let m = crate::keywords::first_symbol(rest, i, c, flags, q);
@@ -238,7 +239,7 @@ fn by_window(
     flags: Flags,
     s: Scope,
     slots: &[[u32; 4]],
-    names: &[[u32; 128]],
+    names: &[[u32; Scope::MAX_NAME]],
     cap: usize,
     out: &mut [u32],
     scratch: &mut [u32],
@@ -274,7 +275,7 @@ pub fn read_token(
     flags: Flags,
     s: Scope,
     slots: &[[u32; 4]],
-    names: &[[u32; 128]],
+    names: &[[u32; Scope::MAX_NAME]],
     cap: usize,
     out: &mut [u32],
     scratch: &mut [u32],
