@@ -17,6 +17,7 @@ use lexer::flags::Flags;
 use lexer::token::Read;
 use lexer::token_type::TokenType;
 use scope::scope::Scope;
+use text::refusal::Refusal;
 use text::utf8::Text;
 
 // Position, flags, and whether a start token is due, of which type.
@@ -167,28 +168,28 @@ fn refusal(
     position: usize,
     s: Scope,
     slots: &[[u32; 4]],
-    names: &[[u32; 128]],
+    names: &[[u32; Scope::MAX_NAME]],
     out: usize,
     scratch: usize,
 ) -> u32
     ensures { λ r. ⌜ r ≡ refusalOf (lent s (now (slots .entry)) (now (names .entry))) position n out scratch ⌝ }
 {
     if Text::MAX_CHARS < n {
-        return 1;
+        return Refusal::TOO_LONG;
     }
     if n < position {
-        return 12;
+        return Refusal::BEYOND_TEXT;
     }
     if scope::broken::is_broken(s, slots, names) {
-        return 10;
+        return Refusal::BROKEN_SCOPE;
     }
     if out < n {
-        return 9;
+        return Refusal::SHORT_SLICE;
     }
     if scratch < 2 * n {
-        return 9;
+        return Refusal::SHORT_SLICE;
     }
-    0
+    Refusal::NONE
 }
 
 // The token from the position on: the part of a text's reading that is not refused by the host.
@@ -197,7 +198,7 @@ fn step(
     text: &[u32],
     s: Scope,
     slots: &[[u32; 4]],
-    names: &[[u32; 128]],
+    names: &[[u32; Scope::MAX_NAME]],
     out: &mut [u32],
     scratch: &mut [u32],
 ) -> Called
@@ -244,7 +245,7 @@ pub fn next_token(
     text: &[u32],
     s: Scope,
     slots: &[[u32; 4]],
-    names: &[[u32; 128]],
+    names: &[[u32; Scope::MAX_NAME]],
     out: &mut [u32],
     scratch: &mut [u32],
 ) -> Called

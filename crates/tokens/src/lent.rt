@@ -49,7 +49,7 @@ impl Lexer {
         text: &[u32],
         s: Scope,
         slots: &[[u32; 4]],
-        names: &[[u32; 128]],
+        names: &[[u32; Scope::MAX_NAME]],
         out: &mut [u32],
         scratch: &mut [u32],
     ) -> Read

@@ -287,13 +287,13 @@ pub fn read_token(
 {
     let i = lexer::skip::skip(rest);
     let o = by_window(rest, i, flags, s, slots, names, cap, out, scratch);
-    let read = o.read;
+    let token = o.read;
     let used = o.used;
     let before = o.flags;
     let after = before.clear_unary_tests();
     let reach = o.reach;
     Outcome {
-        read,
+        read: token,
         used,
         flags: after,
         reach,
