@@ -1,21 +1,21 @@
 -- Each way through a number, followed look by look with its exact reach.
-use mathlib.Core.Path.{_≡_, refl, sym, ap, _∙_}
-use mathlib.Core.Bool.{Bool, true, false, cond, _||_}
+use mathlib.Core.Path.{_≡_, sym, ap, _∙_}
+use mathlib.Core.Bool.{Bool, true, false, _||_}
 use mathlib.Core.List.{List, [], _++_}
-use Prim.Native.Nat.{ℕ, suc, _+_, _-_, _≤_, _<_, max}
+use Prim.Native.Nat.{ℕ, _+_, _-_, _≤_, _<_}
 use native.Mathlib.Omega.{arith}
 use lib.Dec.{eqb}
 use lib.ListN.{length, drop, set, length-drop, length-append}
 use lib.Seq.{paste}
-use Rattle.reading.specs.Look.{cellAt, Look, done}
+use Rattle.reading.specs.Look.{cellAt}
 use Rattle.reading.specs.Cells.{holds, is}
 use Rattle.reading.specs.Span.{part}
-use Rattle.reading.specs.Slices.{front, Wrote}
+use Rattle.reading.specs.Slices.{Wrote}
 use Rattle.reading.proofs.Test.{either}
 use Rattle.reading.proofs.Cell.{cell-there}
 use Rattle.reading.proofs.Passed.{Passed, part-none, part-more, part-length}
 use Rattle.reading.proofs.Front.{front-one, front-first}
-use Rattle.reading.proofs.Going.{Stands, begins, asks, takes, finds, sees-from, sees-gather}
+use Rattle.reading.proofs.Going.{begins, asks, takes, finds, sees-from, sees-gather}
 use Rattle.text.specs.Limits.{maxChars}
 use Rattle.text.specs.Classes.{isDigit}
 use Rattle.lexer.specs.Number.{orZero, readSign, readExponent, readNumber}

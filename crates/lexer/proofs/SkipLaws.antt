@@ -1,20 +1,20 @@
 -- Skipping in code follows the reading with a bound on its reach, which the window will cover.
-use mathlib.Core.Path.{_≡_, refl, sym, ap, _∙_}
-use mathlib.Core.Bool.{Bool, true, false, cond, not, _&&_}
+use mathlib.Core.Path.{_≡_, refl, sym, _∙_}
+use mathlib.Core.Bool.{Bool, true, false, cond, _&&_}
 use mathlib.Core.Option.{Option, none, some}
 use mathlib.Core.List.{List}
-use Prim.Native.Nat.{ℕ, zero, suc, _+_, _-_, _≤_, _<_, max}
+use Prim.Native.Nat.{ℕ, suc, _+_, _-_, _≤_, _<_}
 use native.Mathlib.Omega.{arith}
 use lib.Dec.{eqb}
 use lib.ListN.{length}
-use Rattle.reading.specs.Look.{cellAt, Look, done, ask, _>>=_, run}
+use Rattle.reading.specs.Look.{cellAt, Look, done, ask, _>>=_}
 use Rattle.reading.specs.Cells.{maybe, is}
-use Rattle.reading.specs.Goes.{Goes, Sees, Reads}
-use Rattle.reading.specs.Span.{gather, part}
+use Rattle.reading.specs.Goes.{Sees, Reads}
+use Rattle.reading.specs.Span.{gather}
 use Rattle.reading.proofs.Test.{both}
 use Rattle.reading.proofs.Cell.{cell-in, cell-out, cell-there}
 use Rattle.reading.proofs.Passed.{Passed}
-use Rattle.reading.proofs.Going.{begins, takes, finds, sees-gather, Going, start, wider, farther, exactly, looks, by, ends, reads-on}
+use Rattle.reading.proofs.Going.{begins, takes, finds, sees-gather, Going, start, wider, farther, exactly, looks, by, ends}
 use Rattle.text.specs.Limits.{maxChars}
 use Rattle.text.specs.Classes.{isWhitespace}
 use Rattle.lexer.specs.Skip.{isInLine, blockEnd, blanks, comment, skipFrom, skip}

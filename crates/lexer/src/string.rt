@@ -1,16 +1,12 @@
 // String literals, in two passes: the first reads without writing, so that a string that breaks off has written nothing.
 ghost use mathlib.Core.Path.{_≡_};
 ghost use mathlib.Core.Bool.{true, _||_};
-ghost use mathlib.Core.List.{List, []};
 ghost use Prim.Native.Nat.{ℕ, _+_, _-_, _*_, _≤_, _<_};
 ghost use lib.Dec.{eqb};
 ghost use lib.ListN.{length};
-ghost use Rattle.reading.specs.Goes.{Goes};
-ghost use Rattle.reading.specs.Slices.{Wrote};
 ghost use Rattle.text.specs.Limits.{maxChars};
 ghost use Rattle.lexer.specs.Read as read;
 ghost use Rattle.lexer.specs.Text as spec;
-ghost use Rattle.lexer.specs.Token.{fuel};
 ghost use Rattle.lexer.specs.Pieces.{asPlain, Hexed, Pieced, Plain, Inside, Written};
 use text::chars::Char;
 use text::refusal::Refusal;

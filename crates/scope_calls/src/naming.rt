@@ -2,7 +2,7 @@
 ghost use mathlib.Core.Path.{_≡_};
 ghost use mathlib.Core.Bool.{false};
 ghost use mathlib.Core.List.{[], _∷_, _++_};
-ghost use Prim.Native.Nat.{ℕ, suc, _+_, _≤_, _<_};
+ghost use Prim.Native.Nat.{suc, _+_, _≤_, _<_};
 ghost use lib.ListN.{length, drop, getD};
 ghost use Rattle.scope.specs.Limits.{maxName, maxEntries, maxDepth};
 ghost use Rattle.scope.specs.Calls as spec;

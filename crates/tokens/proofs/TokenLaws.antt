@@ -30,7 +30,7 @@ use Rattle.lexer.specs.Skip.{skip}
 use Rattle.lexer.specs.Number.{orZero, numeric, readNumber}
 use Rattle.lexer.specs.Text.{readString}
 use Rattle.lexer.specs.Naming.{readName}
-use Rattle.lexer.specs.Window.{Row, shown, afterWord, words, symbols, firstOf}
+use Rattle.lexer.specs.Window.{Row, shown, afterWord, symbols, firstOf}
 use Rattle.lexer.specs.Token.{fuel, withFlags, otherCases, behindWords, cases, tokenWith, readToken}
 use Rattle.lexer.specs.Shown.{windowOf}
 use Rattle.lexer.specs.Numerals.{Numbered, digitsOf}

@@ -8,7 +8,6 @@ ghost use Rattle.text.specs.Limits.{maxChars};
 ghost use Rattle.scope.specs.Lent.{isBroken, scopeOf};
 ghost use Rattle.scope.specs.Answers.{lent};
 ghost use Rattle.lexer.specs.Flags as flag;
-ghost use Rattle.lexer.specs.FlagsOf.{flagsOf};
 ghost use Rattle.lexer.specs.Lexer as spec;
 ghost use Rattle.lexer.specs.TokenType as type;
 ghost use Rattle.lexer.specs.Fit.{Clear};
