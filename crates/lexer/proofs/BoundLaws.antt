@@ -42,10 +42,6 @@ module _ (found : List ℕ → Bool) (cap : ℕ) (keys : (l : List ℕ) → foun
   fit-bound zero h = let e : m ≡ 0 = omega arith in rw e
   fit-bound (suc n) h = by-order m (suc n) (λ l. rw (missed (suc n) l) (fit-bound n (omega arith))) (λ l. let e : m ≡ suc n = omega arith in rw e)
 
-inks-none : (t : List ℕ) (i : ℕ) → inks (texts (prefix t 0 i)) ≡ 0
-unfolding prefix
-inks-none t i = refl
-
 -- A loop that adds up what the parts hold has added m of them and stands at i.
 pub record Bounding (t : List ℕ) (from n i m total : ℕ) : Type 0 where
   pub upto : m ≤ n

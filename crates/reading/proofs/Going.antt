@@ -82,6 +82,3 @@ module _ {A : Type 0} {t : List ℕ} {w : Look A} where
 
   pub ends : {a : A} {far : ℕ} → Going t w (done a) far → Reads t w a far
   ends g = record { reach = g .reach; near = g .near; same = g .same }
-
-  pub reads-on : {m : Look A} {far q : ℕ} {a : A} → Going t w m far → Reads t m a q → (to : ℕ) → far ≤ to → q ≤ to → Reads t w a to
-  reads-on {m} g s to h l = record { reach = max (g .reach) (s .reach); near = let n = g .near in let k = s .near in omega arith; same = g .same ∙ from-zero t (g .reach) m (s .same) }

@@ -6,7 +6,7 @@ use Prim.Native.Nat.{ℕ, zero, suc, _+_, _-_, _<_, _≤_}
 use native.Mathlib.Omega.{arith}
 use native.Mathlib.Numerals.{add-one}
 use lib.Dec.{ltb, leb, eqb}
-use lib.ListN.{length, getD, drop, drop-of-length-le, length-append}
+use lib.ListN.{length, getD, drop, drop-of-length-le}
 use lib.Seq.{drop-cons}
 use borrow.Author.Tests.{eq-eqb, ne-eqb, lt-ltb, le-ltb, ltb-false, le-leb, lt-leb}
 use Rattle.reading.proofs.Test.{or-left, or-right}
@@ -177,11 +177,3 @@ module _ (cut k : ℕ) (cs : List ℕ) (rs : List (List ℕ)) (i : ℕ) where
   module _ (h : i < length rs) {b : Bool} (q : b ≡ stays cut (spanned k cs (getD rs i [])) (drop (i + 1) (listed k cs rs))) {c : ℕ} (r : c ≡ cutAfter cut (getD (getD rs i []) 0 0) b) where
     pub settled-step : settledFrom cut (drop i (listed k cs rs)) ≡ keep b (spanned k cs (getD rs i [])) ++ settledFrom c (drop (i + 1) (listed k cs rs))
     settled-step = ap (settledFrom cut) (listed-step k cs rs i h) ∙ settled-parts cut (spanned k cs (getD rs i [])) (drop (i + 1) (listed k cs rs)) ∙ rw (r, q)
-
-    pub count-step : {m : ℕ} → m ≡ cond b 1 0 → length (settledFrom cut (drop i (listed k cs rs))) ≡ m + length (settledFrom c (drop (i + 1) (listed k cs rs)))
-    unfolding keep
-    count-step e = rw (settled-step, length-append, e) (ap (λ z. z + length (settledFrom c (drop (i + 1) (listed k cs rs)))) (one b))
-      where
-        one : (a : Bool) → length (cond a (spanned k cs (getD rs i []) ∷ []) []) ≡ cond a 1 0
-        one true = refl
-        one false = refl
