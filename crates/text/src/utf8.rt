@@ -1,7 +1,9 @@
 // Bytes to characters, one cell each.
 ghost use mathlib.Core.Path.{_≡_};
+ghost use mathlib.Core.List.{[], _∷_};
 ghost use Prim.Native.Nat.{_<_, _≤_, _-_};
 ghost use lib.ListN.{length, drop, getD};
+ghost use Rattle.text.specs.Limits.{maxChars, maxBytes};
 ghost use Rattle.text.specs.Ranges.{to, within};
 ghost use Rattle.text.specs.Utf8 as spec;
 ghost use Rattle.text.specs.Opening.{sequenceOf, secondLow, secondHigh, countOf, HasRoom, writtenOf, openingOf};
@@ -16,6 +18,14 @@ impl Text {
     pub const MAX_CHARS: usize = 16_384;
 
     pub const MAX_BYTES: usize = 65_536;
+}
+
+// The limits, in the order of the definitions.
+// Ruled out, among others: a constant that is another number than 01's.
+pub fn numbers() -> [usize; 2]
+    ensures { λ r. ⌜ r ≡ (maxChars ∷ maxBytes ∷ []) ⌝ }
+{
+    [Text::MAX_CHARS, Text::MAX_BYTES]
 }
 
 // What opening answers: the text, or the number and the place of a refusal.
