@@ -4,7 +4,10 @@ use crate::lent;
 use crate::lent::FILL;
 use crate::told;
 use lexer::token::Read;
+use lexer::token_type::TokenType;
 use runs::item;
+use text::refusal::Refusal;
+use text::utf8::Text;
 use tokens::call::Called;
 use tokens::call::Lexer;
 
@@ -15,14 +18,14 @@ fn state(position: usize, pending: bool) -> Lexer {
         position,
         flags,
         pending,
-        start_type: 258,
+        start_type: TokenType::START_EXPRESSION,
     }
 }
 
 // 01: 3, 5 and 6 carry something.
 fn carry(n: u32, c: u32) {
     match n {
-        3 | 5 | 6 => {
+        Refusal::NO_HEX_DIGIT | Refusal::NO_SCALAR_VALUE | Refusal::NO_SECOND_HALF => {
             say::words(b", carry ");
             say::hexadecimal(c);
         }
@@ -39,8 +42,8 @@ fn token(k: u32, place: usize) {
 fn read(r: Read, place: usize) {
     match r {
         Read::Plain(k) => token(k, place),
-        Read::Boolean(_) => token(289, place),
-        Read::Numeric(_, _, _, _) => token(287, place),
+        Read::Boolean(_) => token(TokenType::BOOLEAN, place),
+        Read::Numeric(_, _, _, _) => token(TokenType::NUMERIC, place),
         Read::Chars(k, n) => {
             token(k, place);
             told::number(b", value cells ", n);
@@ -138,7 +141,8 @@ fn host(position: usize, pending: bool, n: usize, contexts: usize, output: usize
 
 // 01: 1, 12, 10, 9. In the first calls the causes behind hold, too.
 fn hosts() {
-    host(16_386, false, 16_385, 33, 0, 0);
+    let n = Text::MAX_CHARS;
+    host(n + 2, false, n + 1, 33, 0, 0);
     host(3, false, 2, 33, 0, 0);
     host(2, false, 2, 33, 0, 0);
     host(1, false, 2, 1, 1, 4);
@@ -146,8 +150,8 @@ fn hosts() {
     host(1, false, 2, 1, 2, 4);
     host(0, true, 2, 1, 1, 4);
     host(0, true, 2, 1, 2, 4);
-    host(0, false, 16_385, 1, 16_385, 32_770);
-    host(0, false, 16_384, 1, 16_384, 32_768);
+    host(0, false, n + 1, 1, n + 1, 2 * n + 2);
+    host(0, false, n, 1, n, 2 * n);
     host(0, false, 0, 1, 0, 0);
 }
 

@@ -4,6 +4,7 @@ mod filled; // filled.rt: whether slices are as before
 mod lent; // lent.rt: what is lent
 mod lexing; // lexing.rt: the token call
 mod opening; // opening.rt: bytes opened
+mod paging; // paging.rt: rows read into items
 mod repairing; // repairing.rt: a repair
 mod rows; // rows.rt: a record printed
 mod running; // running.rt: a run
@@ -16,4 +17,5 @@ fn main() {
     lexing::tried();
     running::tried();
     repairing::tried();
+    paging::tried();
 }

@@ -5,8 +5,10 @@ use crate::lent::FILL;
 use crate::lexing;
 use crate::rows;
 use crate::told;
+use lexer::token_type::TokenType;
 use runs::item;
 use text::utf8::Opening;
+use text::utf8::Text;
 
 // A run over the first n characters, with so many rows, store cells and scratch cells lent.
 fn run_front(
@@ -37,7 +39,7 @@ fn run_front(
     let names = lent::names();
     let made = runs::run::run(
         &text[..n],
-        258,
+        TokenType::START_EXPRESSION,
         item::bit_flags(flags),
         told::empty_scope(contexts),
         &slots,
@@ -73,14 +75,15 @@ fn host(n: usize, contexts: usize, items: usize, values: usize, scratch: usize) 
 
 // 01: 1, 10, 9. In the first calls the causes behind hold, too.
 fn hosts() {
-    host(16_385, 33, 0, 0, 0);
+    let n = Text::MAX_CHARS;
+    host(n + 1, 33, 0, 0, 0);
     host(2, 33, 0, 0, 0);
     host(2, 1, 3, 2, 4);
     host(2, 1, 4, 1, 4);
     host(2, 1, 4, 2, 3);
     host(2, 1, 4, 2, 4);
-    host(16_385, 1, 16_387, 16_385, 32_770);
-    host(16_384, 1, 16_386, 16_384, 32_768);
+    host(n + 1, 1, n + 3, n + 1, 2 * n + 2);
+    host(n, 1, n + 2, n, 2 * n);
     host(0, 1, 2, 0, 0);
 }
 

@@ -28,7 +28,7 @@ fn made(
     call: u32,
     s: Scope,
     slots: &mut [[u32; 4]],
-    names: &mut [[u32; 128]],
+    names: &mut [[u32; Scope::MAX_NAME]],
     name: &[u32],
     rows: &[[u32; 4]],
     cells: &[u32],
@@ -72,7 +72,7 @@ fn after(r: Changed, s: Scope) -> Scope {
 // A scope that holds so many parsed names.
 fn hold_parsed(
     slots: &mut [[u32; 4]],
-    names: &mut [[u32; 128]],
+    names: &mut [[u32; Scope::MAX_NAME]],
     cells: &[u32],
     count: usize,
 ) -> Scope {
@@ -95,7 +95,7 @@ fn hold_parsed(
 // A scope that holds so many entries.
 fn hold_entries(
     slots: &mut [[u32; 4]],
-    names: &mut [[u32; 128]],
+    names: &mut [[u32; Scope::MAX_NAME]],
     rows: &[[u32; 4]],
     cells: &[u32],
     count: usize,
@@ -115,7 +115,7 @@ fn hold(
     call: u32,
     contexts: usize,
     slots: &mut [[u32; 4]],
-    names: &mut [[u32; 128]],
+    names: &mut [[u32; Scope::MAX_NAME]],
     rows: &[[u32; 4]],
     cells: &[u32],
     count: usize,
@@ -148,7 +148,7 @@ fn call_front(
     call: u32,
     s: Scope,
     slots: &mut [[u32; 4]],
-    names: &mut [[u32; 128]],
+    names: &mut [[u32; Scope::MAX_NAME]],
     length: usize,
     rows: &[[u32; 4]],
     entries: usize,
@@ -175,8 +175,8 @@ fn call_front(
 fn kept(
     slots: &[[u32; 4]],
     slots_before: &[[u32; 4]],
-    names: &[[u32; 128]],
-    names_before: &[[u32; 128]],
+    names: &[[u32; Scope::MAX_NAME]],
+    names_before: &[[u32; Scope::MAX_NAME]],
 ) {
     told::kept(b"; slots", filled::same_slots(slots, slots_before));
     told::kept(b", names", filled::same_names(names, names_before));
