@@ -1,4 +1,7 @@
-// The token call: refused by the host, at the limits of a text, and refused by the text.
+// The token call, by value and on a lent lexer: refused by the host, at the limits of a text, and refused by the text.
+ghost use Rattle.scope.specs.Answers.{lent};
+ghost use Rattle.lexer.specs.Lexer as spec;
+ghost use Rattle.tokens.specs.CalledBy.{stateOf, CalledBy};
 use crate::filled;
 use crate::lent;
 use crate::lent::FILL;
@@ -6,6 +9,7 @@ use crate::told;
 use lexer::token::Read;
 use lexer::token_type::TokenType;
 use runs::item;
+use scope::scope::Scope;
 use text::refusal::Refusal;
 use text::utf8::Text;
 use tokens::call::Called;
@@ -86,8 +90,47 @@ fn answer(c: Called, out: &[u32], zero: bool) {
     told::cleared(zero);
 }
 
+// The call on a lexer in a local, which is lent to it.
+fn on_lent(
+    l: Lexer,
+    text: &[u32],
+    s: Scope,
+    slots: &[[u32; 4]],
+    names: &[[u32; Scope::MAX_NAME]],
+    out: &mut [u32],
+    scratch: &mut [u32],
+) -> Called
+    ensures { λ r. ⌜ CalledBy (spec.nextToken (lent s (now (slots .entry)) (now (names .entry))) (stateOf l) (now (text .entry)) (now (out .entry)) (now (scratch .entry))) r (now (out .exit)) (now (scratch .exit)) ⌝ }
+{
+    let mut lexer = l;
+    let read = lexer.next_token_mut(text, s, slots, names, out, scratch);
+    Called {
+        read,
+        place: lexer.position,
+        next: lexer,
+    }
+}
+
+// The call by value, or on a lent lexer.
+fn called(
+    lends: bool,
+    l: Lexer,
+    text: &[u32],
+    s: Scope,
+    slots: &[[u32; 4]],
+    names: &[[u32; Scope::MAX_NAME]],
+    out: &mut [u32],
+    scratch: &mut [u32],
+) -> Called {
+    if lends {
+        return on_lent(l, text, s, slots, names, out, scratch);
+    }
+    tokens::call::next_token(l, text, s, slots, names, out, scratch)
+}
+
 // A call on the first n characters, with so many cells of output and scratch lent.
 fn call_front(
+    lends: bool,
     l: Lexer,
     text: &[u32],
     n: usize,
@@ -108,7 +151,8 @@ fn call_front(
     }
     let slots = lent::slots();
     let names = lent::names();
-    let c = tokens::call::next_token(
+    let c = called(
+        lends,
         l,
         &text[..n],
         told::empty_scope(contexts),
@@ -122,12 +166,21 @@ fn call_front(
 }
 
 // A call on so many times `a`.
-fn host(position: usize, pending: bool, n: usize, contexts: usize, output: usize, scratch: usize) {
+fn host(
+    lends: bool,
+    position: usize,
+    pending: bool,
+    n: usize,
+    contexts: usize,
+    output: usize,
+    scratch: usize,
+) {
     told::numbers(&[position, n, contexts, output, scratch]);
     let text = lent::text(0x61);
     let mut out = lent::cells();
     let mut free = lent::cells();
     call_front(
+        lends,
         state(position, pending),
         &text,
         n,
@@ -140,26 +193,27 @@ fn host(position: usize, pending: bool, n: usize, contexts: usize, output: usize
 }
 
 // 01: 1, 12, 10, 9. In the first calls the causes behind hold, too.
-fn hosts() {
+fn hosts(lends: bool) {
     let n = Text::MAX_CHARS;
-    host(n + 2, false, n + 1, 33, 0, 0);
-    host(3, false, 2, 33, 0, 0);
-    host(2, false, 2, 33, 0, 0);
-    host(1, false, 2, 1, 1, 4);
-    host(1, false, 2, 1, 2, 3);
-    host(1, false, 2, 1, 2, 4);
-    host(0, true, 2, 1, 1, 4);
-    host(0, true, 2, 1, 2, 4);
-    host(0, false, n + 1, 1, n + 1, 2 * n + 2);
-    host(0, false, n, 1, n, 2 * n);
-    host(0, false, 0, 1, 0, 0);
+    host(lends, n + 2, false, n + 1, 33, 0, 0);
+    host(lends, 3, false, 2, 33, 0, 0);
+    host(lends, 2, false, 2, 33, 0, 0);
+    host(lends, 1, false, 2, 1, 1, 4);
+    host(lends, 1, false, 2, 1, 2, 3);
+    host(lends, 1, false, 2, 1, 2, 4);
+    host(lends, 0, true, 2, 1, 1, 4);
+    host(lends, 0, true, 2, 1, 2, 4);
+    host(lends, 0, false, n + 1, 1, n + 1, 2 * n + 2);
+    host(lends, 0, false, n, 1, n, 2 * n);
+    host(lends, 0, false, 0, 1, 0, 0);
 }
 
 // A call from the third of n characters on, which are at most 16.
-pub fn behind(text: &[u32], n: usize) {
+pub fn behind(lends: bool, text: &[u32], n: usize) {
     let mut out = [FILL; 16];
     let mut free = [FILL; 32];
     call_front(
+        lends,
         state(2, false),
         text,
         n,
@@ -173,5 +227,7 @@ pub fn behind(text: &[u32], n: usize) {
 
 pub fn tried() {
     say::words(b"Token calls: position, characters, contexts, output, scratch\n");
-    hosts();
+    hosts(false);
+    say::words(b"Token calls on a lent lexer, the same\n");
+    hosts(true);
 }

@@ -87,14 +87,16 @@ fn hosts() {
     host(0, 1, 2, 0, 0);
 }
 
-// A token call and a run that the text refuses.
+// A token call, by value and on a lent lexer, and a run that the text refuses.
 fn both(text: &[u32], n: usize) {
     let mut all = [[FILL; 11]; 18];
     let mut store = [FILL; 16];
     let mut free = [FILL; 32];
     let k = n % 32;
     say::words(b": ");
-    lexing::behind(text, n);
+    lexing::behind(false, text, n);
+    say::words(b"  lent: ");
+    lexing::behind(true, text, n);
     say::words(b"  run: ");
     run_front(
         text,

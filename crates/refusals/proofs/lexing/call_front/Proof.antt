@@ -11,7 +11,7 @@ use Rattle.refusals.proofs.lent.names.Reads as names-reads
 use Rattle.refusals.proofs.lent.slots.Reads as slots-reads
 use Rattle.refusals.proofs.lexing.answer.Reads as answer-reads
 use Rattle.refusals.proofs.told.empty_scope.Reads as empty-scope-reads
-use Rattle.tokens.proofs.call.next_token.Reads as next-token-reads
+use Rattle.refusals.proofs.lexing.called.Reads as called-reads
 
 returns : tie.Need-returns
 returns c = search needs
@@ -28,32 +28,32 @@ slots-requires c κs = search needs
 names-requires : tie.Need-names-requires
 names-requires c κs = search needs
 
-slice-aggregate-next-token : tie.Need-slice-aggregate-next-token
-slice-aggregate-next-token c = simp length-take (omega arith)
+slice-aggregate-called : tie.Need-slice-aggregate-called
+slice-aggregate-called c = simp length-take (omega arith)
 
 empty-scope-requires : tie.Need-empty-scope-requires
 empty-scope-requires c κs = search needs
 
-slice-aggregate-next-token-2 : tie.Need-slice-aggregate-next-token-2
-slice-aggregate-next-token-2 c = search needs
+slice-aggregate-called-2 : tie.Need-slice-aggregate-called-2
+slice-aggregate-called-2 c = search needs
 
-slice-aggregate-next-token-3 : tie.Need-slice-aggregate-next-token-3
-slice-aggregate-next-token-3 c = search needs
+slice-aggregate-called-3 : tie.Need-slice-aggregate-called-3
+slice-aggregate-called-3 c = search needs
 
-slice-relend-prefix-next-token : tie.Need-slice-relend-prefix-next-token
-slice-relend-prefix-next-token c = search needs
+slice-relend-prefix-called : tie.Need-slice-relend-prefix-called
+slice-relend-prefix-called c = search needs
 
-slice-aggregate-next-token-4 : tie.Need-slice-aggregate-next-token-4
-slice-aggregate-next-token-4 c = simp length-take (omega arith)
+slice-aggregate-called-4 : tie.Need-slice-aggregate-called-4
+slice-aggregate-called-4 c = simp length-take (omega arith)
 
-slice-relend-prefix-next-token-2 : tie.Need-slice-relend-prefix-next-token-2
-slice-relend-prefix-next-token-2 c = search needs
+slice-relend-prefix-called-2 : tie.Need-slice-relend-prefix-called-2
+slice-relend-prefix-called-2 c = search needs
 
-slice-aggregate-next-token-5 : tie.Need-slice-aggregate-next-token-5
-slice-aggregate-next-token-5 c = simp length-take (omega arith)
+slice-aggregate-called-5 : tie.Need-slice-aggregate-called-5
+slice-aggregate-called-5 c = simp length-take (omega arith)
 
-next-token-requires : tie.Need-next-token-requires
-next-token-requires c κs = search needs
+called-requires : tie.Need-called-requires
+called-requires c κs = search needs
 
 slice-reshare-prefix-is-filled : tie.Need-slice-reshare-prefix-is-filled
 slice-reshare-prefix-is-filled c = search needs
@@ -85,15 +85,15 @@ call-front-spec =
     returns-3
     slots-requires
     names-requires
-    slice-aggregate-next-token
+    slice-aggregate-called
     empty-scope-requires
-    slice-aggregate-next-token-2
-    slice-aggregate-next-token-3
-    slice-relend-prefix-next-token
-    slice-aggregate-next-token-4
-    slice-relend-prefix-next-token-2
-    slice-aggregate-next-token-5
-    next-token-requires
+    slice-aggregate-called-2
+    slice-aggregate-called-3
+    slice-relend-prefix-called
+    slice-aggregate-called-4
+    slice-relend-prefix-called-2
+    slice-aggregate-called-5
+    called-requires
     slice-reshare-prefix-is-filled
     slice-aggregate-is-filled
     is-filled-requires
