@@ -1,4 +1,4 @@
-// Answers printed.
+// Answers printed. What is written cannot be said in a contract, so these have none.
 use scope::scope::Changed;
 use scope::scope::Scope;
 

@@ -1,9 +1,12 @@
-// The scope calls at their limits, each trial in rows of its own.
+// The scope calls at their limits, each trial in rows of its own. A call is printed with its answer, and what it gives back is the scope after it.
 use crate::answers;
-use crate::calls;
+use scope::broken;
+use scope::keys;
 use scope::scope::Changed;
 use scope::scope::Scope;
+use scope_calls::naming;
 use scope_calls::parsed;
+use scope_calls::push;
 use scope_calls::stack;
 
 // The characters that lists take their names from.
@@ -34,6 +37,105 @@ const DEEP: [[u32; 4]; 9] = [
     [8, 1, 0, 1],
 ];
 
+// A refused call leaves the scope that was.
+fn after(r: Changed, s: Scope) -> Scope {
+    match r {
+        Changed::Done(next) => next,
+        Changed::Refused(_) => s,
+    }
+}
+
+fn pushed(
+    text: &[u8],
+    s: Scope,
+    slots: &mut [[u32; 4]; 768],
+    names: &mut [[u32; Scope::MAX_NAME]; 768],
+    rows: &[[u32; 4]],
+    cells: &[u32],
+) -> Scope {
+    let r = push::push(s, slots, names, rows, cells);
+    answers::answer(text, r);
+    after(r, s)
+}
+
+fn pushed_empty(
+    text: &[u8],
+    s: Scope,
+    slots: &[[u32; 4]; 768],
+    names: &[[u32; Scope::MAX_NAME]; 768],
+) -> Scope {
+    let r = stack::push_default(s, slots, names);
+    answers::answer(text, r);
+    after(r, s)
+}
+
+fn popped(
+    text: &[u8],
+    s: Scope,
+    slots: &[[u32; 4]; 768],
+    names: &[[u32; Scope::MAX_NAME]; 768],
+) -> Scope {
+    let r = stack::pop(s, slots, names);
+    answers::answer(text, r);
+    after(r, s)
+}
+
+fn named(
+    text: &[u8],
+    s: Scope,
+    slots: &mut [[u32; 4]; 768],
+    names: &mut [[u32; Scope::MAX_NAME]; 768],
+    name: &[u32],
+) -> Scope {
+    let r = naming::set_entry_name(s, slots, names, name);
+    answers::answer(text, r);
+    after(r, s)
+}
+
+fn context_named(
+    text: &[u8],
+    s: Scope,
+    slots: &mut [[u32; 4]; 768],
+    names: &mut [[u32; Scope::MAX_NAME]; 768],
+    name: &[u32],
+    rows: &[[u32; 4]],
+    cells: &[u32],
+) -> Scope {
+    let r = naming::set_context(s, slots, names, name, rows, cells);
+    answers::answer(text, r);
+    after(r, s)
+}
+
+fn added(
+    text: &[u8],
+    s: Scope,
+    slots: &mut [[u32; 4]; 768],
+    names: &mut [[u32; Scope::MAX_NAME]; 768],
+    name: &[u32],
+) -> Scope {
+    let r = parsed::add_parsed_name(s, slots, names, name);
+    answers::answer(text, r);
+    after(r, s)
+}
+
+// Whether a text is a name; a broken scope has none.
+fn has(s: Scope, slots: &[[u32; 4]], names: &[[u32; Scope::MAX_NAME]], text: &[u32]) -> bool {
+    if broken::is_broken(s, slots, names) {
+        return false;
+    }
+    keys::is_name(s, slots, names, text)
+}
+
+fn asked(
+    text: &[u8],
+    s: Scope,
+    slots: &[[u32; 4]; 768],
+    names: &[[u32; Scope::MAX_NAME]; 768],
+    name: &[u32],
+) {
+    answers::name(text, has(s, slots, names, name));
+}
+
 // Names of one character each, no two alike.
 fn write_cells(cells: &mut [u32; 514]) {
     let mut i: usize = 0;
@@ -52,26 +154,26 @@ fn write_list(rows: &mut [[u32; 4]; 514]) {
     }
 }
 
-fn pushed(
+fn pushed_all(
     text: &[u8],
     slots: &mut [[u32; 4]; 768],
-    names: &mut [[u32; 128]; 768],
+    names: &mut [[u32; Scope::MAX_NAME]; 768],
     rows: &[[u32; 4]; 514],
     cells: &[u32; 514],
 ) -> Scope {
-    calls::pushed(text, Scope::opened(), slots, names, rows, cells)
+    pushed(text, Scope::opened(), slots, names, rows, cells)
 }
 
 // A list that is over the limit as it stands, and within it once repeats are replaced; the scope with 512 entries that it leaves.
-fn entries(slots: &mut [[u32; 4]; 768], names: &mut [[u32; 128]; 768]) -> Scope {
+fn entries(slots: &mut [[u32; 4]; 768], names: &mut [[u32; Scope::MAX_NAME]; 768]) -> Scope {
     say::words(b"Entries\n");
     let mut cells = [0u32; 514];
     write_cells(&mut cells);
     let mut rows = [[0u32; 4]; 514];
     write_list(&mut rows);
-    pushed(b"514 entries", slots, names, &rows, &cells);
+    pushed_all(b"514 entries", slots, names, &rows, &cells);
     rows[513] = [0, 0, 1, 1];
-    pushed(
+    pushed_all(
         b"514 entries, 513 left after replacing",
         slots,
         names,
@@ -79,7 +181,7 @@ fn entries(slots: &mut [[u32; 4]; 768], names: &mut [[u32; 128]; 768]) -> Scope 
         &cells,
     );
     rows[512] = [0, 0, 0, 1];
-    pushed(
+    pushed_all(
         b"514 entries, 512 left after replacing",
         slots,
         names,
@@ -92,15 +194,15 @@ fn full() {
     let mut slots = [[0u32; 4]; 768];
     let mut names = [[0u32; 128]; 768];
     let s = entries(&mut slots, &mut names);
-    calls::named(b"a variable of another name", s, &mut slots, &mut names, &X);
-    let t = calls::named(
+    named(b"a variable of another name", s, &mut slots, &mut names, &X);
+    let t = named(
         b"a variable of a name that is there",
         s,
         &mut slots,
         &mut names,
         &[0x4E05],
     );
-    calls::context_named(
+    context_named(
         b"a context of one entry and a name that is there",
         t,
         &mut slots,
@@ -109,16 +211,16 @@ fn full() {
         &FIRST,
         &ABC,
     );
-    let more = calls::pushed_empty(b"an empty context pushed", t, &slots, &names);
-    calls::named(b"a variable there", more, &mut slots, &mut names, &X);
-    calls::added(b"a parsed name", more, &mut slots, &mut names, &X);
+    let more = pushed_empty(b"an empty context pushed", t, &slots, &names);
+    named(b"a variable there", more, &mut slots, &mut names, &X);
+    added(b"a parsed name", more, &mut slots, &mut names, &X);
 }
 
-fn all_contexts(slots: &[[u32; 4]; 768], names: &[[u32; 128]; 768]) -> Scope {
+fn all_contexts(slots: &[[u32; 4]; 768], names: &[[u32; Scope::MAX_NAME]; 768]) -> Scope {
     let mut s = Scope::opened();
     let mut i: usize = 0;
     while i < 31 {
-        s = calls::after(stack::push_default(s, slots, names), s);
+        s = after(stack::push_default(s, slots, names), s);
         i += 1;
     }
     s
@@ -130,9 +232,9 @@ fn contexts() {
     let mut names = [[0u32; 128]; 768];
     let s = all_contexts(&slots, &names);
     answers::answer(b"31 contexts pushed onto the first", Changed::Done(s));
-    calls::pushed_empty(b"an empty one more", s, &slots, &names);
-    calls::pushed(b"a list more", s, &mut slots, &mut names, &FIRST, &ABC);
-    calls::pushed(
+    pushed_empty(b"an empty one more", s, &slots, &names);
+    pushed(b"a list more", s, &mut slots, &mut names, &FIRST, &ABC);
+    pushed(
         b"a broken list more",
         s,
         &mut slots,
@@ -140,18 +242,18 @@ fn contexts() {
         &ORPHAN,
         &ABC,
     );
-    let last = calls::named(b"a variable in the last", s, &mut slots, &mut names, &X);
-    let less = calls::popped(b"popped", last, &slots, &names);
-    calls::pushed(b"a list pushed", less, &mut slots, &mut names, &FIRST, &ABC);
+    let last = named(b"a variable in the last", s, &mut slots, &mut names, &X);
+    let less = popped(b"popped", last, &slots, &names);
+    pushed(b"a list pushed", less, &mut slots, &mut names, &FIRST, &ABC);
 }
 
 // A scope with 256 parsed names, from 0x4E00 on.
-fn all_parsed(slots: &mut [[u32; 4]; 768], names: &mut [[u32; 128]; 768]) -> Scope {
+fn all_parsed(slots: &mut [[u32; 4]; 768], names: &mut [[u32; Scope::MAX_NAME]; 768]) -> Scope {
     let mut s = Scope::opened();
     let mut i: usize = 0;
     while i < 256 {
         let name = [0x4E00 + i as u32];
-        s = calls::after(parsed::add_parsed_name(s, slots, names, &name), s);
+        s = after(parsed::add_parsed_name(s, slots, names, &name), s);
         i += 1;
     }
     s
@@ -163,12 +265,12 @@ fn parsed_names() {
     let mut names = [[0u32; 128]; 768];
     let s = all_parsed(&mut slots, &mut names);
     answers::answer(b"256 parsed names", Changed::Done(s));
-    calls::added(b"one of them again", s, &mut slots, &mut names, &[0x4E64]);
-    calls::added(b"a 257th", s, &mut slots, &mut names, &[0x4F00]);
-    calls::added(b"a broken one", s, &mut slots, &mut names, &BAD);
-    let none = calls::popped(b"popped", s, &slots, &names);
-    calls::asked(b"the 256th", none, &slots, &names, &[0x4EFF]);
-    calls::asked(b"the 257th", none, &slots, &names, &[0x4F00]);
+    added(b"one of them again", s, &mut slots, &mut names, &[0x4E64]);
+    added(b"a 257th", s, &mut slots, &mut names, &[0x4F00]);
+    added(b"a broken one", s, &mut slots, &mut names, &BAD);
+    let none = popped(b"popped", s, &slots, &names);
+    asked(b"the 256th", none, &slots, &names, &[0x4EFF]);
+    asked(b"the 257th", none, &slots, &names, &[0x4F00]);
 }
 
 fn used_again() {
@@ -176,7 +278,7 @@ fn used_again() {
     let mut slots = [[0u32; 4]; 768];
     let mut names = [[0u32; 128]; 768];
     let two = [[0u32, 0, 0, 1], [0, 0, 1, 1]];
-    let s = calls::pushed(
+    let s = pushed(
         b"a and b pushed",
         Scope::opened(),
         &mut slots,
@@ -184,13 +286,13 @@ fn used_again() {
         &two,
         &ABC,
     );
-    calls::asked(b"a", s, &slots, &names, &[0x61]);
-    let none = calls::popped(b"popped", s, &slots, &names);
-    calls::asked(b"a", none, &slots, &names, &[0x61]);
-    let t = calls::pushed(b"c pushed", none, &mut slots, &mut names, &THIRD, &ABC);
-    calls::asked(b"a", t, &slots, &names, &[0x61]);
-    calls::asked(b"b", t, &slots, &names, &[0x62]);
-    calls::asked(b"c", t, &slots, &names, &[0x63]);
+    asked(b"a", s, &slots, &names, &[0x61]);
+    let none = popped(b"popped", s, &slots, &names);
+    asked(b"a", none, &slots, &names, &[0x61]);
+    let t = pushed(b"c pushed", none, &mut slots, &mut names, &THIRD, &ABC);
+    asked(b"a", t, &slots, &names, &[0x61]);
+    asked(b"b", t, &slots, &names, &[0x62]);
+    asked(b"c", t, &slots, &names, &[0x63]);
 }
 
 fn lengths() {
@@ -198,33 +300,33 @@ fn lengths() {
     let mut slots = [[0u32; 4]; 768];
     let mut names = [[0u32; 128]; 768];
     let long = [0x61u32; 129];
-    let s = calls::named(
+    let s = named(
         b"an empty name",
         Scope::opened(),
         &mut slots,
         &mut names,
         &long[0..0],
     );
-    calls::asked(b"the empty text", s, &slots, &names, &long[0..0]);
-    let t = calls::named(
+    asked(b"the empty text", s, &slots, &names, &long[0..0]);
+    let t = named(
         b"a name of 128 characters",
         s,
         &mut slots,
         &mut names,
         &long[0..128],
     );
-    calls::asked(b"the 128 characters", t, &slots, &names, &long[0..128]);
-    calls::named(
+    asked(b"the 128 characters", t, &slots, &names, &long[0..128]);
+    named(
         b"a name of 129 characters",
         t,
         &mut slots,
         &mut names,
         &long,
     );
-    calls::named(b"0xD7FF", t, &mut slots, &mut names, &[0xD7FF]);
-    calls::named(b"0xD800", t, &mut slots, &mut names, &BAD);
-    calls::named(b"0x10FFFF", t, &mut slots, &mut names, &[0x10FFFF]);
-    calls::named(b"0x110000", t, &mut slots, &mut names, &[0x110000]);
+    named(b"0xD7FF", t, &mut slots, &mut names, &[0xD7FF]);
+    named(b"0xD800", t, &mut slots, &mut names, &BAD);
+    named(b"0x10FFFF", t, &mut slots, &mut names, &[0x10FFFF]);
+    named(b"0x110000", t, &mut slots, &mut names, &[0x110000]);
 }
 
 fn lists() {
@@ -232,8 +334,8 @@ fn lists() {
     let mut slots = [[0u32; 4]; 768];
     let mut names = [[0u32; 128]; 768];
     let s = Scope::opened();
-    calls::pushed(b"depth 1 first", s, &mut slots, &mut names, &ORPHAN, &ABC);
-    calls::pushed(
+    pushed(b"depth 1 first", s, &mut slots, &mut names, &ORPHAN, &ABC);
+    pushed(
         b"depth 1 below a variable",
         s,
         &mut slots,
@@ -241,7 +343,7 @@ fn lists() {
         &[[0, 0, 0, 1], [1, 0, 1, 1]],
         &ABC,
     );
-    calls::pushed(
+    pushed(
         b"depth 2 below depth 0",
         s,
         &mut slots,
@@ -249,8 +351,8 @@ fn lists() {
         &[[0, 1, 0, 1], [2, 0, 1, 1]],
         &ABC,
     );
-    calls::pushed(b"kind 2", s, &mut slots, &mut names, &[[0, 2, 0, 1]], &ABC);
-    calls::pushed(
+    pushed(b"kind 2", s, &mut slots, &mut names, &[[0, 2, 0, 1]], &ABC);
+    pushed(
         b"a name that ends beyond the characters",
         s,
         &mut slots,
@@ -265,7 +367,7 @@ fn depths() {
     let mut slots = [[0u32; 4]; 768];
     let mut names = [[0u32; 128]; 768];
     let s = Scope::opened();
-    calls::pushed(
+    pushed(
         b"depths 0 to 7",
         s,
         &mut slots,
@@ -273,8 +375,8 @@ fn depths() {
         &DEEP[0..8],
         &ABC,
     );
-    calls::pushed(b"depths 0 to 8", s, &mut slots, &mut names, &DEEP, &ABC);
-    calls::context_named(
+    pushed(b"depths 0 to 8", s, &mut slots, &mut names, &DEEP, &ABC);
+    context_named(
         b"depths 0 to 6 below x",
         s,
         &mut slots,
@@ -283,7 +385,7 @@ fn depths() {
         &DEEP[0..7],
         &ABC,
     );
-    calls::context_named(
+    context_named(
         b"depths 0 to 7 below x",
         s,
         &mut slots,
@@ -299,7 +401,7 @@ fn replaced() {
     let mut slots = [[0u32; 4]; 768];
     let mut names = [[0u32; 128]; 768];
     let key = [0x78u32, 0x20, 0x2E, 0x20, 0x61];
-    let s = calls::context_named(
+    let s = context_named(
         b"x, a context of a",
         Scope::opened(),
         &mut slots,
@@ -308,13 +410,13 @@ fn replaced() {
         &FIRST,
         &ABC,
     );
-    calls::asked(b"x . a", s, &slots, &names, &key);
-    calls::asked(b"a", s, &slots, &names, &[0x61]);
-    let t = calls::named(b"x, a variable", s, &mut slots, &mut names, &X);
-    calls::asked(b"x", t, &slots, &names, &X);
-    calls::asked(b"x . a", t, &slots, &names, &key);
-    calls::asked(b"a", t, &slots, &names, &[0x61]);
-    let u = calls::context_named(
+    asked(b"x . a", s, &slots, &names, &key);
+    asked(b"a", s, &slots, &names, &[0x61]);
+    let t = named(b"x, a variable", s, &mut slots, &mut names, &X);
+    asked(b"x", t, &slots, &names, &X);
+    asked(b"x . a", t, &slots, &names, &key);
+    asked(b"a", t, &slots, &names, &[0x61]);
+    let u = context_named(
         b"x, a context of a again",
         t,
         &mut slots,
@@ -323,20 +425,20 @@ fn replaced() {
         &FIRST,
         &ABC,
     );
-    calls::asked(b"x . a", u, &slots, &names, &key);
+    asked(b"x . a", u, &slots, &names, &key);
 }
 
 fn empty_stack() {
     say::words(b"Empty stack\n");
     let mut slots = [[0u32; 4]; 768];
     let mut names = [[0u32; 128]; 768];
-    let s = calls::popped(b"popped", Scope::opened(), &slots, &names);
-    calls::popped(b"popped again", s, &slots, &names);
-    calls::named(b"a variable", s, &mut slots, &mut names, &X);
-    calls::context_named(b"a context", s, &mut slots, &mut names, &X, &FIRST, &ABC);
-    calls::named(b"a broken name", s, &mut slots, &mut names, &BAD);
-    let t = calls::added(b"a parsed name", s, &mut slots, &mut names, &X);
-    calls::pushed(b"a list pushed", t, &mut slots, &mut names, &FIRST, &ABC);
+    let s = popped(b"popped", Scope::opened(), &slots, &names);
+    popped(b"popped again", s, &slots, &names);
+    named(b"a variable", s, &mut slots, &mut names, &X);
+    context_named(b"a context", s, &mut slots, &mut names, &X, &FIRST, &ABC);
+    named(b"a broken name", s, &mut slots, &mut names, &BAD);
+    let t = added(b"a parsed name", s, &mut slots, &mut names, &X);
+    pushed(b"a list pushed", t, &mut slots, &mut names, &FIRST, &ABC);
 }
 
 fn nested() {
@@ -351,7 +453,7 @@ fn nested() {
         [1, 0, 3, 1],
         [1, 0, 1, 1],
     ];
-    let s = calls::pushed(
+    let s = pushed(
         b"o with n, a context of v, then w, then n, a variable",
         Scope::opened(),
         &mut slots,
@@ -359,11 +461,11 @@ fn nested() {
         &again,
         &cells,
     );
-    calls::asked(b"o . n", s, &slots, &names, &[0x6F, 0x20, 0x2E, 0x20, 0x6E]);
-    calls::asked(b"v", s, &slots, &names, &cells[2..3]);
-    calls::asked(b"w", s, &slots, &names, &cells[3..4]);
+    asked(b"o . n", s, &slots, &names, &[0x6F, 0x20, 0x2E, 0x20, 0x6E]);
+    asked(b"v", s, &slots, &names, &cells[2..3]);
+    asked(b"w", s, &slots, &names, &cells[3..4]);
     let apart = [[0u32, 1, 0, 1], [1, 0, 1, 1], [0, 1, 4, 1], [1, 0, 1, 1]];
-    calls::pushed(
+    pushed(
         b"o with n, then p with n",
         s,
         &mut slots,
@@ -383,7 +485,7 @@ fn lent() {
         entries: 0,
         parsed: 0,
     };
-    calls::popped(b"33 contexts", over, &slots, &names);
+    popped(b"33 contexts", over, &slots, &names);
     let short = stack::pop(Scope::opened(), &slots[0..767], &names);
     answers::answer(b"767 rows", short);
     slots[0] = [1, 0, 0, 129];
@@ -392,8 +494,8 @@ fn lent() {
         entries: 1,
         parsed: 0,
     };
-    calls::popped(b"a name length of 129", used, &slots, &names);
-    calls::popped(
+    popped(b"a name length of 129", used, &slots, &names);
+    popped(
         b"the same in a row that is not in use",
         Scope::opened(),
         &slots,

@@ -6,7 +6,7 @@ use Rattle.limits.proofs.scope_limits.all_contexts.Statement.{statement
 use Rattle.limits.proofs.scope_limits.all_contexts.Tie as tie
 use Rattle.limits.proofs.scope_limits.all_contexts.Reads as reads
 use Rattle.limits.proofs.scope_limits.all_contexts.Lts as lts
-use Rattle.limits.proofs.calls.after.Reads as after-reads
+use Rattle.limits.proofs.scope_limits.after.Reads as after-reads
 use Rattle.scope.proofs.scope.Scope.opened.Reads as opened-reads
 use Rattle.scope_calls.proofs.stack.push_default.Reads as push-default-reads
 

@@ -6,7 +6,7 @@ use Rattle.limits.proofs.scope_limits.all_parsed.Statement.{statement}
 use Rattle.limits.proofs.scope_limits.all_parsed.Tie as tie
 use Rattle.limits.proofs.scope_limits.all_parsed.Reads as reads
 use Rattle.limits.proofs.scope_limits.all_parsed.Lts as lts
-use Rattle.limits.proofs.calls.after.Reads as after-reads
+use Rattle.limits.proofs.scope_limits.after.Reads as after-reads
 use Rattle.scope_calls.proofs.parsed.add_parsed_name.Reads as add-parsed-name-reads
 use Rattle.scope.proofs.scope.Scope.opened.Reads as opened-reads
 

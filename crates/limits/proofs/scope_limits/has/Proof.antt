@@ -1,10 +1,10 @@
 -- The question is asked of a scope that was just found unbroken.
 use mathlib.Core.Path.{sym, _∙_}
 use borrow.Author.Needs.{needs}
-use Rattle.limits.proofs.calls.has.Statement.{statement}
-use Rattle.limits.proofs.calls.has.Tie as tie
-use Rattle.limits.proofs.calls.has.Reads as reads
-use Rattle.limits.proofs.calls.has.Lts as lts
+use Rattle.limits.proofs.scope_limits.has.Statement.{statement}
+use Rattle.limits.proofs.scope_limits.has.Tie as tie
+use Rattle.limits.proofs.scope_limits.has.Reads as reads
+use Rattle.limits.proofs.scope_limits.has.Lts as lts
 use Rattle.scope.proofs.broken.is_broken.Reads as is-broken-reads
 use Rattle.scope.proofs.keys.is_name.Reads as is-name-reads
 
