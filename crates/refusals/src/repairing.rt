@@ -203,7 +203,7 @@ fn places() {
     damaged(1, Item::BEFORE, 0);
 }
 
-// A last type before the last row, a refusal there, none at the end; numbers that no item has.
+// A last type before the last row, a refusal there, none at the end; numbers that no item has; an extra number that is only kept.
 fn kinds() {
     damaged(2, Item::NUMBER, TokenType::YY_EOF);
     damaged(2, Item::NUMBER, TokenType::YY_ERROR);
