@@ -27,6 +27,18 @@
  * above FEEL_ALL_FLAGS (feel_run). A scope that is not of FEEL_SCOPE_SIZE numbers is no shape but a
  * broken scope: 10, where the call's order has it.
  *
+ * Cost. A run takes time with the text's length, and checks its scope once; a token call checks the
+ * scope and clears scratch each time. Names cost most. Where a name begins, the lexer walks over all
+ * that might belong to it: words, white space and . / - ' + *, to the first other character. If names
+ * are in scope it then tries, from long to short, every prefix of that stretch which is no longer than
+ * the longest key (the longest name of each depth, added up), and compares each with all names. So a
+ * text that is one such stretch takes time with the square of its length, and with the names in scope
+ * and the length of the longest key beside. Rules and names as people write them take microseconds;
+ * 16,384 characters of `a+a+a...` take half a second with `a` in scope, a second with 56 nested names
+ * of some words beside it, and over a minute with names of 128 characters nested eight deep
+ * (docs/BENCHMARKS.md). A host that takes texts or names from strangers should bound both. The cost of
+ * a pushed list is linear in its rows, whatever the names.
+ *
  * Version. Sizes and places below may change from one version to the next. A program that was
  * compiled with the header of another version than the archive's does not link.
  */
@@ -108,8 +120,9 @@ enum feel_answer {
     FEEL_ANSWER_ITEMS = 7     /* rows of a record */
 };
 
-/* Of a scope: three counts. Slots 0 to 511 are entries, 512 to 767 parsed names; rows that the
- * counts do not cover are free and never read. */
+/* Of a scope: three counts. Slots 0 to 511 are entries, 512 to 767 parsed names. Rows that the
+ * counts do not cover, the cells of a name behind its length and the first three numbers of a parsed
+ * name's slot are free: a call that is not refused may leave anything there, and none reads them. */
 enum feel_scope { FEEL_SCOPE_CONTEXTS = 0, FEEL_SCOPE_ENTRIES = 1, FEEL_SCOPE_PARSED = 2 };
 
 /* Of a slot: the entry's context (from 1), depth, kind, length of the name in the row of `names`

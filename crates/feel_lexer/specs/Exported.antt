@@ -87,7 +87,8 @@ abbrev pub changedNumber : calls.Changed → ℕ
 changedNumber (calls.changed s) = 0
 changedNumber (calls.refused n) = n
 
--- The counts and rows after it: the model's scope, which is not broken, or all as it was. Rows that the scope does not use are free.
+-- The counts and rows after it: the model's scope, which is not broken, or all as it was.
+-- Free, and read by no call, are the rows that the scope does not use, the cells behind a name's length, and the first three numbers of a parsed name's slot.
 abbrev pub Leaves : calls.Changed → List ℕ → List (List ℕ) → List (List ℕ) → List ℕ → List (List ℕ) → List (List ℕ) → Type 0
 Leaves (calls.changed s) ns slots names ns′ slots′ names′ = (scopeOf (lentOf ns′ slots′ names′) ≡ s) × (isBroken (lentOf ns′ slots′ names′) ≡ false)
 Leaves (calls.refused n) ns slots names ns′ slots′ names′ = (ns′ ≡ ns) × (slots′ ≡ slots) × (names′ ≡ names)
