@@ -139,10 +139,13 @@ fn function_names(source: &str) -> String {
     format!("\npub const FUNCTION_NAMES: &[&str] = &[{names}];\n")
 }
 
-/// The way back from a number to its `TokenType`, which the tables lack.
+/// The way back from a number to its `TokenType`, which the tables lack, and all types with their numbers.
 fn token_types(tables: &str) -> String {
     let body = tables.split("pub enum TokenType {").nth(1).and_then(|rest| rest.split('}').next()).expect("lalr.rs has the enum TokenType");
-    let rows: String =
-        body.split(',').filter_map(|row| row.trim().split_once(" = ")).map(|(name, number)| format!("{number} => Some(Self::{name}), ")).collect();
-    format!("\nimpl TokenType {{ pub fn from_number(number: i32) -> Option<Self> {{ match number {{ {rows} _ => None }} }} }}\n")
+    let types: Vec<(&str, &str)> = body.split(',').filter_map(|row| row.trim().split_once(" = ")).collect();
+    let rows: String = types.iter().map(|(name, number)| format!("{number} => Some(Self::{name}), ")).collect();
+    let numbers: String = types.iter().map(|(name, number)| format!("({name:?}, {number}), ")).collect();
+    format!(
+        "\nimpl TokenType {{ pub fn from_number(number: i32) -> Option<Self> {{ match number {{ {rows} _ => None }} }} pub const NUMBERS: &[(&str, i32)] = &[{numbers}]; }}\n"
+    )
 }

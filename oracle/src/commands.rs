@@ -8,6 +8,7 @@ use crate::random::{edit, random};
 use crate::record::{End, Record, keep_panics, run};
 use crate::replay;
 use crate::rules::{departures, rules, short};
+use crate::rust::lalr::TokenType;
 use std::collections::BTreeMap;
 use std::io;
 use std::path::Path;
@@ -24,6 +25,9 @@ oracle replay                         writes what the program crates/replay read
 oracle show NAME...                   prints cases by their names, with the Rust's records
 oracle run                            reads cases in their text form, prints each with the Rust's record
 ";
+
+/// The definitions' token types.
+const TOKEN_TYPES: &str = concat!(env!("CARGO_MANIFEST_DIR"), "/../crates/lexer/specs/TokenType.antt");
 
 /// Where `rt check print_record` puts the record program.
 const PROGRAM: &str = concat!(env!("CARGO_MANIFEST_DIR"), "/../target/bin/print_record");
@@ -86,7 +90,24 @@ fn check() -> io::Result<bool> {
     for path in &stale {
         println!("{path} is not what `replay` writes");
     }
-    Ok(differ == 0 && as_printed && stale.is_empty() && records.iter().all(|record| !matches!(record.end, End::Unexplained(_))))
+    let types_agree = token_types()?;
+    Ok(differ == 0 && as_printed && types_agree && stale.is_empty() && records.iter().all(|record| !matches!(record.end, End::Unexplained(_))))
+}
+
+/// The token types of the definitions against those of the tables. Left out there are the mark of an empty table entry and the one type that only the grammar has.
+fn token_types() -> io::Result<bool> {
+    let definitions = fs::read_to_string(TOKEN_TYPES)?;
+    let defined: Vec<(&str, i32)> =
+        definitions.lines().filter_map(|line| line.split_once(" = ")).filter_map(|(name, number)| Some((name, number.parse().ok()?))).collect();
+    let tables: Vec<(&str, i32)> = TokenType::NUMBERS.iter().copied().filter(|(name, _)| !["YyEmpty", "PrecedenceNeg"].contains(name)).collect();
+    for (name, number) in defined.iter().filter(|row| !tables.contains(row)) {
+        println!("token type {name} = {number} of the definitions is not in the tables");
+    }
+    for (name, number) in tables.iter().filter(|row| !defined.contains(row)) {
+        println!("token type {name} = {number} of the tables is not defined");
+    }
+    println!("token types {}, agree {}", tables.len(), tables.iter().filter(|row| defined.contains(row)).count());
+    Ok(!tables.is_empty() && defined == tables)
 }
 
 /// The case at the front of a line with the Rust's record, as a line again.
