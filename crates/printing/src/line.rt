@@ -14,12 +14,7 @@ use crate::number;
 use crate::value;
 use runs::cell;
 use runs::item::Item;
-
-const SPACE: u32 = 0x20;
-
-const NEW_LINE: u32 = 0x0A;
-
-const R: u32 = 0x52;
+use text::chars::Char;
 
 // Writes a decimal number and a space.
 fn put_count(n: usize, out: &mut [u32], k: usize) -> usize
@@ -27,7 +22,7 @@ fn put_count(n: usize, out: &mut [u32], k: usize) -> usize
     ensures { λ r. ⌜ Further (now (out .entry)) k (spec.decimal n ++ codes " ") r (now (out .exit)) × (r ≡ k + length (spec.decimal n) + 1) ⌝ }
 {
     let j = number::put_number(10, n, out, k);
-    cells::put_cell(SPACE, out, j)
+    cells::put_cell(Char::SPACE, out, j)
 }
 
 // The same of a cell.
@@ -44,7 +39,7 @@ fn put_mark(refused: u32, out: &mut [u32], k: usize) -> usize
     ensures { λ r. ⌜ Further (now (out .entry)) k (cond (eqb refused 1) (codes "R") []) r (now (out .exit)) ⌝ }
 {
     if refused == 1 {
-        return cells::put_cell(R, out, k);
+        return cells::put_cell(Char::CAPITAL_R, out, k);
     }
     k
 }
@@ -68,7 +63,7 @@ fn put_line(n: usize, row: [u32; 11], store: &[u32], out: &mut [u32], k: usize) 
     let j = put_field(row[Item::POSITION], out, j);
     let j = put_field(row[Item::REACH], out, j);
     let j = value::put_value(row, store, out, j);
-    cells::put_cell(NEW_LINE, out, j)
+    cells::put_cell(Char::LINE_FEED, out, j)
 }
 
 // Writes the lines of the first so many rows to the front of out.
@@ -92,8 +87,8 @@ pub fn put_refused(n: u32, place: usize, out: &mut [u32]) -> usize
     requires { ⌜ length (spec.refusedLine n place) ≤ length (now out) ⌝ }
     ensures { λ r. ⌜ Wrote (now (out .entry)) (spec.refusedLine n place) r (now (out .exit)) ⌝ }
 {
-    let j = cells::put_cell(R, out, 0);
+    let j = cells::put_cell(Char::CAPITAL_R, out, 0);
     let j = put_field(n, out, j);
     let j = number::put_number(10, place, out, j);
-    cells::put_cell(NEW_LINE, out, j)
+    cells::put_cell(Char::LINE_FEED, out, j)
 }

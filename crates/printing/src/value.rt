@@ -17,20 +17,17 @@ use crate::number;
 use lexer::token_type::TokenType;
 use runs::cell;
 use runs::item::Item;
+use text::chars::Char;
 
-const DASH: u32 = 0x2D;
+const TRUE: [u32; 4] = [Char::SMALL_T, Char::SMALL_R, Char::SMALL_U, Char::SMALL_E];
 
-const PLUS: u32 = 0x2B;
-
-const SLASH: u32 = 0x2F;
-
-const COMMA: u32 = 0x2C;
-
-const EQUALS: u32 = 0x3D;
-
-const TRUE: [u32; 4] = [0x74, 0x72, 0x75, 0x65];
-
-const FALSE: [u32; 5] = [0x66, 0x61, 0x6C, 0x73, 0x65];
+const FALSE: [u32; 5] = [
+    Char::SMALL_F,
+    Char::SMALL_A,
+    Char::SMALL_L,
+    Char::SMALL_S,
+    Char::SMALL_E,
+];
 
 // Writes a code point, after a comma where others stand before it.
 fn put_code_point(behind: bool, c: u32, out: &mut [u32], k: usize) -> usize
@@ -38,7 +35,7 @@ fn put_code_point(behind: bool, c: u32, out: &mut [u32], k: usize) -> usize
     ensures { λ r. ⌜ Further (now (out .entry)) k (cond behind (codes ",") [] ++ spec.hexadecimal c) r (now (out .exit)) ⌝ }
 {
     if behind {
-        let j = cells::put_cell(COMMA, out, k);
+        let j = cells::put_cell(Char::COMMA, out, k);
         return number::put_number(16, cell::wide(c), out, j);
     }
     number::put_number(16, cell::wide(c), out, k)
@@ -63,7 +60,7 @@ fn put_text(value: &[u32], out: &mut [u32], k: usize) -> usize
     requires { ⌜ k + length (codes "=" ++ spec.joinedByComma (now value)) ≤ length (now out) ⌝ }
     ensures { λ r. ⌜ Further (now (out .entry)) k (codes "=" ++ spec.joinedByComma (now (value .entry))) r (now (out .exit)) ⌝ }
 {
-    let j = cells::put_cell(EQUALS, out, k);
+    let j = cells::put_cell(Char::EQUAL, out, k);
     put_code_points(value, out, j)
 }
 
@@ -73,7 +70,7 @@ fn put_digits(value: &[u32], a: usize, z: usize, out: &mut [u32], k: usize) -> u
     ensures { λ r. ⌜ Further (now (out .entry)) k (part (now (value .entry)) a z ++ codes "/") r (now (out .exit)) × (r ≡ k + (z - a) + 1) ⌝ }
 {
     let j = cells::put_part(value, a, z, out, k);
-    cells::put_cell(SLASH, out, j)
+    cells::put_cell(Char::SLASH, out, j)
 }
 
 // An exponent's sign.
@@ -81,9 +78,9 @@ fn sign(extra: u32) -> u32
     ensures { λ r. ⌜ r ∷ [] ≡ cond (eqb extra 1) (codes "-") (codes "+") ⌝ }
 {
     if extra == 1 {
-        return DASH;
+        return Char::MINUS;
     }
-    PLUS
+    Char::PLUS
 }
 
 // Writes an exponent's sign and a slash.
@@ -92,7 +89,7 @@ fn put_sign(extra: u32, out: &mut [u32], k: usize) -> usize
     ensures { λ r. ⌜ Further (now (out .entry)) k (cond (eqb extra 1) (codes "-") (codes "+") ++ codes "/") r (now (out .exit)) × (r ≡ k + 2) ⌝ }
 {
     let j = cells::put_cell(sign(extra), out, k);
-    cells::put_cell(SLASH, out, j)
+    cells::put_cell(Char::SLASH, out, j)
 }
 
 // Writes a number: digits before, after, sign, exponent.
@@ -151,7 +148,7 @@ fn put_carry(n: u32, extra: u32, out: &mut [u32], k: usize) -> usize
     if has_carry(n) {
         return number::put_number(16, cell::wide(extra), out, k);
     }
-    cells::put_cell(DASH, out, k)
+    cells::put_cell(Char::MINUS, out, k)
 }
 
 // The types whose value is a name or a string.
@@ -206,5 +203,5 @@ pub fn put_value(row: [u32; 11], store: &[u32], out: &mut [u32], k: usize) -> us
     if TokenType::BOOLEAN == n {
         return put_truth(extra, out, k);
     }
-    cells::put_cell(DASH, out, k)
+    cells::put_cell(Char::MINUS, out, k)
 }

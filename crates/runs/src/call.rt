@@ -28,7 +28,7 @@ pub fn refusal(
     n: usize,
     s: Scope,
     slots: &[[u32; 4]],
-    names: &[[u32; 128]],
+    names: &[[u32; Scope::MAX_NAME]],
     rows: usize,
     store: usize,
     scratch: usize,

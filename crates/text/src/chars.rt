@@ -53,6 +53,8 @@ impl Char {
 
     pub const CAPITAL_F: u32 = b'F' as u32;
 
+    pub const CAPITAL_R: u32 = b'R' as u32;
+
     pub const CAPITAL_U: u32 = b'U' as u32;
 
     pub const LEFT_BRACKET: u32 = b'[' as u32;
