@@ -63,7 +63,7 @@ zeros-drop zero n h = refl
 zeros-drop (suc k) zero h = absurd (omega arith)
 zeros-drop (suc k) (suc n) h = ap (0 ∷_) (zeros-drop k n (omega arith))
 
--- Two cells for each of the text are room enough for parts joined by spaces.
+-- Two cells for each of the text are room enough for parts in either spelling.
 laid-length : (b : Bool) (p : List ℕ) → length (laid b p) ≤ suc (length p)
 unfolding laid
 laid-length true p = omega arith
@@ -83,11 +83,11 @@ module _ (t : List ℕ) (new : Bool) where
   spelled-fits zero i b h = omega arith
   spelled-fits (suc n) i b h = spelled-leads n i b (nextOf t i) (next-placed t i h) (λ e c m. spelled-fits n e c m)
 
-pub room : (t : List ℕ) (from m : ℕ) {n : ℕ} → 2 * length t ≤ n → from ≤ length t → length (spelling false (prefix t m from)) ≤ n
-room t from m l h = omega (arith, spelled-fits t false m from true h)
+pub room : (t : List ℕ) (new : Bool) (from m : ℕ) {n : ℕ} → 2 * length t ≤ n → from ≤ length t → length (spelling new (prefix t m from)) ≤ n
+room t new from m l h = omega (arith, spelled-fits t new m from true h)
 
-pub used : (t : List ℕ) (from m : ℕ) {k : ℕ} {o o₁ : List ℕ} → Wrote o (spelling false (prefix t m from)) k o₁ → 2 * length t ≤ length o → from ≤ length t → k ≤ length o
-used t from m w l h = omega (arith, w .size, room t from m l h)
+pub used : (t : List ℕ) (new : Bool) (from m : ℕ) {k : ℕ} {o o₁ : List ℕ} → Wrote o (spelling new (prefix t m from)) k o₁ → 2 * length t ≤ length o → from ≤ length t → k ≤ length o
+used t new from m w l h = omega (arith, w .size, room t new from m l h)
 
 pub sized : {o v o′ : List ℕ} {n k : ℕ} → Left o v n k o′ → k ≡ length (take k o′)
 sized f = f .size ∙ ap length (sym (f .front))

@@ -9,7 +9,7 @@ use Rattle.naming.proofs.name.named.Lts as lts
 use Rattle.lexer.proofs.parts.write_parts.Reads as write-parts-reads
 
 write-parts-requires : tie.Need-write-parts-requires
-write-parts-requires c κs = let k = c .before .before .before in let l = k .pre .2 .so (k .args .m) (omega arith) in (omega arith, omega arith)
+write-parts-requires c κs = (omega arith, c .before .before .before .pre .2 .so _ (omega arith))
 
 same-length : tie.Need-same-length
 same-length c = search needs
