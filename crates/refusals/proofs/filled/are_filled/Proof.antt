@@ -1,7 +1,7 @@
 -- What is left is filled if all is.
 use mathlib.Core.Path.{_≡_, refl, sym, _∙_}
 use native.Mathlib.Omega.{arith}
-use Prim.Native.Nat.{_-_, _≤_}
+use Prim.Native.Nat.{_-_}
 use lib.Dec.{eqb}
 use lib.ListN.{length, drop}
 use mathlib.Core.List.{[]}

@@ -2,7 +2,7 @@
 use native.Mathlib.Omega.{arith}
 use Prim.Native.Nat.{_-_}
 use lib.ListN.{length}
-use mathlib.Core.Path.{_≡_, refl}
+use mathlib.Core.Path.{_≡_}
 use Rattle.refusals.proofs.scoping.hold_parsed.Statement.{statement}
 use Rattle.refusals.proofs.scoping.hold_parsed.Tie as tie
 use Rattle.refusals.proofs.scoping.hold_parsed.Reads as reads
