@@ -1,6 +1,12 @@
 // A scope from its calls, as a case gives them.
-ghost use Prim.Native.Nat.{_≤_};
+ghost use mathlib.Core.Path.{_≡_};
+ghost use mathlib.Core.Bool.{false};
+ghost use Prim.Native.Nat.{_+_, _≤_};
 ghost use lib.ListN.{length};
+ghost use Rattle.scope.specs.Limits.{maxEntries, maxParsed};
+ghost use Rattle.scope.specs.Lent.{isBroken};
+ghost use Rattle.scope.specs.Answers.{lent, Kept, Whole};
+ghost use Rattle.replay.specs.After.{afterCall};
 use crate::fields;
 use scope::scope::Changed;
 use scope::scope::Scope;
@@ -57,11 +63,13 @@ fn made(
     call: u32,
     s: Scope,
     slots: &mut [[u32; 4]],
-    names: &mut [[u32; 128]],
+    names: &mut [[u32; Scope::MAX_NAME]],
     name: &[u32],
     rows: &[[u32; 4]],
     cells: &[u32],
-) -> Changed {
+) -> Changed
+    ensures { λ r. ⌜ Kept r (now (slots .entry)) (now (slots .exit)) × Kept r (now (names .entry)) (now (names .exit)) × Whole r (now (slots .exit)) (now (names .exit)) ⌝ }
+{
     match call {
         0 => scope_calls::push::push(s, slots, names, rows, cells),
         1 => scope_calls::stack::pop(s, slots, names),
@@ -72,7 +80,9 @@ fn made(
 }
 
 // A refused call leaves the scope that was; no case has one.
-fn after(r: Changed, s: Scope) -> Scope {
+fn after(r: Changed, s: Scope) -> Scope
+    ensures { λ t. ⌜ t ≡ afterCall r s ⌝ }
+{
     match r {
         Changed::Done(next) => next,
         Changed::Refused(_) => s,
@@ -85,9 +95,11 @@ fn call(
     from: usize,
     s: Scope,
     slots: &mut [[u32; 4]],
-    names: &mut [[u32; 128]],
-) -> Called {
-    let mut name = [0u32; 128];
+    names: &mut [[u32; Scope::MAX_NAME]],
+) -> Called
+    ensures { λ r. ⌜ (isBroken (lent s (now (slots .entry)) (now (names .entry))) ≡ false → isBroken (lent (r .scope) (now (slots .exit)) (now (names .exit))) ≡ false) ⌝ }
+{
+    let mut name = [0u32; Scope::MAX_NAME];
     let mut rows = [[0u32; 4]; 64];
     let mut cells = [0u32; 1024];
     let number = fields::read_decimal(line, from);
@@ -111,13 +123,16 @@ fn call(
     }
 }
 
-// A fresh scope after the calls that a case gives.
+// A fresh scope after the calls that a case gives: whatever they are, it is not broken.
 pub fn scope_of(
     line: &[u8],
     from: usize,
     slots: &mut [[u32; 4]],
-    names: &mut [[u32; 128]],
-) -> Scope {
+    names: &mut [[u32; Scope::MAX_NAME]],
+) -> Scope
+    ensures { λ r. ⌜ (maxEntries + maxParsed ≤ length (now (slots .entry)) → maxEntries + maxParsed ≤ length (now (names .entry))
+        → isBroken (lent r (now (slots .exit)) (now (names .exit))) ≡ false) ⌝ }
+{
     let count = fields::read_decimal(line, from);
     let mut s = Scope::opened();
     let mut at = count.next;

@@ -1,6 +1,8 @@
 // The fields of a line, parted by single spaces: decimal numbers, and texts as code points in hexadecimal.
-ghost use Prim.Native.Nat.{_≤_};
+ghost use mathlib.Core.Path.{_≡_};
+ghost use Prim.Native.Nat.{_+_, _*_, _<_, _≤_};
 ghost use lib.ListN.{length};
+ghost use Rattle.replay.specs.Fields.{nextField, digitsEnd, numberAt, numberLimit};
 
 // A number, and where the next field begins.
 pub struct Number {
@@ -15,7 +17,9 @@ pub struct Cells {
 }
 
 // Where the field behind the next space begins.
-pub fn next_field(line: &[u8], from: usize) -> usize {
+pub fn next_field(line: &[u8], from: usize) -> usize
+    ensures { λ r. ⌜ r ≡ nextField (now (line .entry)) from ⌝ }
+{
     let mut i = from;
     while i < line.len() {
         if line[i] == b' ' {
@@ -26,24 +30,25 @@ pub fn next_field(line: &[u8], from: usize) -> usize {
     i
 }
 
-fn wide(b: u8) -> u32 {
+fn wide(b: u8) -> u32
+    ensures { λ r. ⌜ r ≡ b ⌝ }
+{
     b as u32
 }
 
-// A digit behind others, in base 10 or 16; no number of a case has more than seven.
+// A digit behind others; a number that has grown too large is cut, so that no number wraps.
 fn appended(n: u32, base: u32, d: u32) -> u32
-    requires { ⌜ d ≤ 16 ⌝ }
+    requires { ⌜ (base ≤ 16) × (d ≤ 16) ⌝ }
+    ensures { λ r. ⌜ (n < numberLimit → r ≡ n * base + d) ⌝ }
 {
-    if base == 10 {
-        return n % 0x100_0000 * 10 + d;
-    }
-    n % 0x100_0000 * 16 + d
+    n % 0x100_0000 * base + d
 }
 
 // The number whose digits begin here, and the place behind them.
 fn read_number(line: &[u8], base: u32, from: usize) -> Number
-    requires { ⌜ base ≤ 16 ⌝ }
-    ensures { λ r. ⌜ from ≤ r .next ⌝ }
+    requires { ⌜ (1 ≤ base) × (base ≤ 16) ⌝ }
+    ensures { λ r. ⌜ (from ≤ r .next) × (r .next ≡ digitsEnd base (now (line .entry)) from)
+        × (numberAt base (now (line .entry)) from < numberLimit → r .value ≡ numberAt base (now (line .entry)) from) ⌝ }
 {
     let mut n: u32 = 0;
     let mut i = from;
@@ -59,7 +64,10 @@ fn read_number(line: &[u8], base: u32, from: usize) -> Number
 }
 
 // A number that is a field of its own.
-pub fn read_decimal(line: &[u8], from: usize) -> Number {
+pub fn read_decimal(line: &[u8], from: usize) -> Number
+    ensures { λ r. ⌜ (r .next ≡ nextField (now (line .entry)) (digitsEnd 10 (now (line .entry)) from))
+        × (numberAt 10 (now (line .entry)) from < numberLimit → r .value ≡ numberAt 10 (now (line .entry)) from) ⌝ }
+{
     let n = read_number(line, 10, from);
     let next = next_field(line, n.next);
     Number {

@@ -18,7 +18,7 @@ fn print_run(
     flags: u32,
     s: Scope,
     slots: &[[u32; 4]],
-    names: &[[u32; 128]],
+    names: &[[u32; Scope::MAX_NAME]],
 ) {
     let mut rows = [[0u32; 11]; 16386];
     let mut store = [0u32; 16384];

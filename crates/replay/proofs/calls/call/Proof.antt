@@ -1,7 +1,8 @@
--- A lent front is as long as its end says.
+-- A lent front is as long as its end says; the call made leaves a scope that is not broken.
 use native.Mathlib.Omega.{arith}
 use lib.ListN.{length-take}
 use borrow.Author.Needs.{needs}
+use Rattle.replay.proofs.AfterLaws.{still-whole}
 use Rattle.replay.proofs.calls.call.Statement.{statement}
 use Rattle.replay.proofs.calls.call.Tie as tie
 use Rattle.replay.proofs.calls.call.Reads as reads
@@ -61,7 +62,7 @@ same-length-2 : tie.Need-same-length-2
 same-length-2 c = search needs
 
 returns : tie.Need-returns
-returns c = search needs
+returns c = λ h. let m = c .before .before .before .made in rw (c .after .ensures) (still-whole (m .result) _ _ _ _ _ (m .ensures .0) (m .ensures .1) (m .ensures .2) h)
 
 pub call-spec : {M : Type 1} → statement M
 call-spec =

@@ -1,6 +1,11 @@
--- What is left falls; the rows stay as many.
+-- What is left falls; the rows stay as many, and each call leaves a scope that is not broken.
 use native.Mathlib.Omega.{arith}
 use lib.ListN.{length}
+use Prim.Native.Nat.{_+_, _≤_}
+use mathlib.Core.Bool.{false}
+use Rattle.scope.specs.Limits.{maxEntries, maxParsed}
+use Rattle.scope.specs.Lent.{isBroken}
+use Rattle.scope.specs.Answers.{lent}
 use mathlib.Core.Path.{_≡_, refl}
 use Rattle.replay.proofs.calls.scope_of.Statement.{statement}
 use Rattle.replay.proofs.calls.scope_of.Tie as tie
@@ -11,7 +16,7 @@ use Rattle.replay.proofs.fields.read_decimal.Reads as read-decimal-read
 use Rattle.scope.proofs.scope.Scope.opened.Reads as opened-reads
 
 abbrev Inv-loop : tie.InvT-loop
-Inv-loop line from slots₀ names₀ s₀ at₀ left₀ slots names s at left = (length slots ≡ length slots₀) × (length names ≡ length names₀)
+Inv-loop line from slots₀ names₀ s₀ at₀ left₀ slots names s at left = (length slots ≡ length slots₀) × (length names ≡ length names₀) × (maxEntries + maxParsed ≤ length slots₀ → maxEntries + maxParsed ≤ length names₀ → isBroken (lent s slots names) ≡ false)
 
 abbrev μ-loop : tie.MeasureT-loop
 μ-loop line from slots₀ names₀ s₀ at₀ left₀ slots names s at left = left
@@ -23,7 +28,7 @@ opened-requires : tie.Need-opened-requires Inv-loop μ-loop
 opened-requires c κs = tt
 
 loop-holds : tie.Need-loop-holds Inv-loop μ-loop
-loop-holds c = omega arith
+loop-holds c = (refl, refl, λ h g. c .opened .ensures .1 _ _ h g)
 
 call-requires : tie.Need-call-requires Inv-loop μ-loop
 call-requires c κs = tt
@@ -35,7 +40,7 @@ loop-less : tie.Need-loop-less Inv-loop μ-loop
 loop-less c = omega arith
 
 loop-again : tie.Need-loop-again Inv-loop μ-loop
-loop-again c = omega arith
+loop-again c = (omega arith, omega arith, λ h g. c .before .before .before .call .ensures (c .before .before .before .before .before .before .before .loop .inv .2 h g))
 
 same-length : tie.Need-same-length Inv-loop μ-loop
 same-length c = omega arith
@@ -44,7 +49,7 @@ same-length-2 : tie.Need-same-length-2 Inv-loop μ-loop
 same-length-2 c = omega arith
 
 returns : tie.Need-returns Inv-loop μ-loop
-returns c = tt
+returns c = c .before .loop .inv .2
 
 pub scope-of-spec : {M : Type 1} → statement M
 scope-of-spec =
