@@ -1,5 +1,5 @@
 -- A call that is refused keeps the rows, and one that is not leaves a scope that is not broken.
-use mathlib.Core.Path.{_≡_, refl, sym, ap, _∙_}
+use mathlib.Core.Path.{_≡_, refl}
 use mathlib.Core.Bool.{false}
 use mathlib.Core.List.{List}
 use Prim.Native.Nat.{ℕ}

@@ -1,5 +1,4 @@
 -- The scope behind a call.
-use mathlib.Core.List.{List}
 use Rattle.scope.specs.declared.scope.Scope.{Scope}
 use Rattle.scope.specs.declared.scope.Changed.{Changed as Answer}
 use Rattle.scope.specs.declared.scope.Changed.the-variants.{Done, Refused}

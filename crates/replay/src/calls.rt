@@ -12,13 +12,13 @@ use scope::scope::Changed;
 use scope::scope::Scope;
 
 // An entry list was read: how many rows it has, and where the next field begins.
-pub struct List {
+struct List {
     pub count: usize,
     pub next: usize,
 }
 
 // A call was made: the scope after it, and where the next field begins.
-pub struct Called {
+struct Called {
     pub scope: Scope,
     pub next: usize,
 }

@@ -36,12 +36,15 @@ fn wide(b: u8) -> u32
     b as u32
 }
 
+// Numbers of a case stay below this.
+const NUMBER_LIMIT: u32 = 0x100_0000;
+
 // A digit behind others; a number that has grown too large is cut, so that no number wraps.
 fn appended(n: u32, base: u32, d: u32) -> u32
     requires { ⌜ (base ≤ 16) × (d ≤ 16) ⌝ }
     ensures { λ r. ⌜ (n < numberLimit → r ≡ n * base + d) ⌝ }
 {
-    n % 0x100_0000 * base + d
+    n % NUMBER_LIMIT * base + d
 }
 
 // The number whose digits begin here, and the place behind them.

@@ -10,6 +10,7 @@ mod record; // record.rt: a record printed
 use runs::call::Made;
 use runs::item;
 use scope::scope::Scope;
+use text::utf8::Text;
 
 // The record of a text, behind its case.
 fn print_run(
@@ -21,7 +22,7 @@ fn print_run(
     names: &[[u32; Scope::MAX_NAME]],
 ) {
     let mut rows = [[0u32; 11]; 16386];
-    let mut store = [0u32; 16384];
+    let mut store = [0u32; Text::MAX_CHARS];
     let mut scratch = [0u32; 32768];
     let made = runs::run::run(
         text,
@@ -42,9 +43,9 @@ fn print_run(
 
 // A case and its record; the case is a line without its end.
 fn print_case(line: &[u8]) {
-    let mut text = [0u32; 16384];
+    let mut text = [0u32; Text::MAX_CHARS];
     let mut slots = [[0u32; 4]; 768];
-    let mut names = [[0u32; 128]; 768];
+    let mut names = [[0u32; Scope::MAX_NAME]; 768];
     let name = fields::next_field(line, 0);
     let start_type = fields::read_decimal(line, name);
     let flags = fields::read_decimal(line, start_type.next);

@@ -2,6 +2,7 @@
 ghost use Prim.Native.Nat.{_+_, _<_, _≤_};
 ghost use lib.ListN.{length};
 use runs::item::Item;
+use text::refusal::Refusal;
 
 fn wide(n: u32) -> usize {
     n as usize
@@ -13,7 +14,7 @@ fn panicked(last: [u32; 11]) -> usize {
         return 0;
     }
     match last[Item::NUMBER] {
-        7 | 8 => 1,
+        Refusal::END_AT_SECOND_HALF | Refusal::STARTS_WITH_IN => 1,
         _ => 0,
     }
 }

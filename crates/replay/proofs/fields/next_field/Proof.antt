@@ -1,6 +1,6 @@
 -- The field behind the next space is the same from every byte that is passed.
 use native.Mathlib.Omega.{arith}
-use Prim.Native.Nat.{_-_, _≤_}
+use Prim.Native.Nat.{_-_}
 use lib.ListN.{length}
 use mathlib.Core.Path.{_≡_, refl, sym, _∙_}
 use Rattle.replay.specs.Fields.{nextField}

@@ -1,6 +1,6 @@
 -- Each digit goes behind the number so far, and no other byte is passed.
 use native.Mathlib.Omega.{arith}
-use Prim.Native.Nat.{_-_, _≤_}
+use Prim.Native.Nat.{_-_}
 use lib.ListN.{length}
 use mathlib.Core.Path.{ap, _∙_}
 use Rattle.replay.specs.Fields.{digitValue}
