@@ -2,7 +2,7 @@
 use native.Mathlib.Omega.{arith}
 use Prim.Native.Nat.{_≤_}
 use lib.ListN.{length, length-set}
-use mathlib.Core.Path.{_≡_, refl}
+use mathlib.Core.Path.{_≡_}
 use Rattle.replay.proofs.calls.read_list.Statement.{statement}
 use Rattle.replay.proofs.calls.read_list.Tie as tie
 use Rattle.replay.proofs.calls.read_list.Reads as reads

@@ -2,7 +2,7 @@
 use native.Mathlib.Omega.{arith}
 use Prim.Native.Nat.{_≤_}
 use lib.ListN.{length, length-set}
-use mathlib.Core.Path.{_≡_, refl}
+use mathlib.Core.Path.{_≡_}
 use Rattle.replay.proofs.fields.fill.Statement.{statement}
 use Rattle.replay.proofs.fields.fill.Tie as tie
 use Rattle.replay.proofs.fields.fill.Reads as reads

@@ -2,7 +2,7 @@
 use native.Mathlib.Omega.{arith}
 use Prim.Native.Nat.{_-_, _≤_}
 use lib.ListN.{length}
-use mathlib.Core.Path.{_≡_, refl}
+use mathlib.Core.Path.{_≡_}
 use Rattle.replay.proofs.fields.read_code_points.Statement.{statement}
 use Rattle.replay.proofs.fields.read_code_points.Tie as tie
 use Rattle.replay.proofs.fields.read_code_points.Reads as reads
