@@ -378,9 +378,14 @@ uint32_t feel_run(const uint32_t *text, size_t text_len, uint32_t start_type, ui
  * counted. old_store: its values; cells behind them are not read.
  * part: the new text from feel_part_start(old_rows, old_rows_len, from) to its end.
  * rows, store, scratch: as for a run of the new text. They are not those of the old record.
- * Refuses, in this order: 13; 1; 10; 9; with place 0. 13 is an edit outside the old text, or one
- * that ends before it begins; rows that no run leaves for a text of that length, a row of no item
- * among them; a part that does not end where the new text does. */
+ * Refuses, in this order: 13; 1; 10; 9; with place 0. 13 is: an edit that ends before it begins or
+ * behind the old text; an old text over FEEL_MAX_CHARS; no rows, or more than FEEL_ROWS_FOR(old_length);
+ * a row of no item, with FEEL_ROW_REFUSED above 1 or FEEL_ROW_FLAGS above FEEL_ALL_FLAGS; a first
+ * position or reach other than 0, a position that is not above the one before or lies behind the text
+ * (the last may equal the one before), a reach below its position or above old_length + 12; a value
+ * that begins elsewhere than where the last one ended, lies outside the store or is longer than the
+ * step in position; a number whose three lengths do not add up; an item that ends a run before the
+ * last one, or none as the last; a part of another length. Whatever else a row holds is kept. */
 uint32_t feel_repair(size_t old_length, FEEL_READ uint32_t (*old_rows)[FEEL_ROW_CELLS], size_t old_rows_len,
                      const uint32_t *old_store, size_t old_store_len,
                      size_t from, size_t to, size_t size, const uint32_t *part, size_t part_len,
