@@ -10,7 +10,9 @@ use lexer::flags::Flags;
 use runs::call;
 use runs::call::Made;
 use runs::item;
+use runs::item::Item;
 use scope::scope::Scope;
+use scope::scope::Slot;
 use text::refusal::Refusal;
 
 // Writes how many items and value cells a record has; an answer at place 0 stays so where none was made.
@@ -50,9 +52,9 @@ pub extern "C" fn feel_run(
     start_type: u32,
     flags: u32,
     scope: &[usize],
-    slots: &[[u32; 4]],
+    slots: &[[u32; Slot::NUMBERS]],
     names: &[[u32; Scope::MAX_NAME]],
-    rows: &mut [[u32; 11]],
+    rows: &mut [[u32; Item::NUMBERS]],
     store: &mut [u32],
     scratch: &mut [u32],
     answer: &mut [usize],
@@ -77,16 +79,16 @@ pub extern "C" fn feel_run(
 #[no_mangle]
 pub extern "C" fn feel_repair(
     old_length: usize,
-    old_rows: &[[u32; 11]],
+    old_rows: &[[u32; Item::NUMBERS]],
     old_store: &[u32],
     from: usize,
     to: usize,
     size: usize,
     part: &[u32],
     scope: &[usize],
-    slots: &[[u32; 4]],
+    slots: &[[u32; Slot::NUMBERS]],
     names: &[[u32; Scope::MAX_NAME]],
-    rows: &mut [[u32; 11]],
+    rows: &mut [[u32; Item::NUMBERS]],
     store: &mut [u32],
     scratch: &mut [u32],
     answer: &mut [usize],

@@ -6,7 +6,9 @@ ghost use Rattle.feel_lexer.specs.Exported.{HasPlace, codedNumber, scope
 use crate::answer;
 use crate::state;
 use scope::scope::Changed;
+use scope::scope::Listed;
 use scope::scope::Scope;
+use scope::scope::Slot;
 use text::refusal::Refusal;
 
 // Writes the scope that a call gave; a refused one leaves it.
@@ -45,7 +47,7 @@ pub extern "C" fn feel_scope_opened(scope: &mut [usize], answer: &mut [usize]) -
 #[no_mangle]
 pub extern "C" fn feel_scope_push_default(
     scope: &mut [usize],
-    slots: &[[u32; 4]],
+    slots: &[[u32; Slot::NUMBERS]],
     names: &[[u32; Scope::MAX_NAME]],
     answer: &mut [usize],
 ) -> u32
@@ -65,9 +67,9 @@ pub extern "C" fn feel_scope_push_default(
 #[no_mangle]
 pub extern "C" fn feel_scope_push(
     scope: &mut [usize],
-    slots: &mut [[u32; 4]],
+    slots: &mut [[u32; Slot::NUMBERS]],
     names: &mut [[u32; Scope::MAX_NAME]],
-    list: &[[u32; 4]],
+    list: &[[u32; Listed::NUMBERS]],
     cells: &[u32],
     answer: &mut [usize],
 ) -> u32
@@ -87,7 +89,7 @@ pub extern "C" fn feel_scope_push(
 #[no_mangle]
 pub extern "C" fn feel_scope_pop(
     scope: &mut [usize],
-    slots: &[[u32; 4]],
+    slots: &[[u32; Slot::NUMBERS]],
     names: &[[u32; Scope::MAX_NAME]],
     answer: &mut [usize],
 ) -> u32
@@ -107,7 +109,7 @@ pub extern "C" fn feel_scope_pop(
 #[no_mangle]
 pub extern "C" fn feel_scope_set_entry_name(
     scope: &mut [usize],
-    slots: &mut [[u32; 4]],
+    slots: &mut [[u32; Slot::NUMBERS]],
     names: &mut [[u32; Scope::MAX_NAME]],
     name: &[u32],
     answer: &mut [usize],
@@ -128,10 +130,10 @@ pub extern "C" fn feel_scope_set_entry_name(
 #[no_mangle]
 pub extern "C" fn feel_scope_set_context(
     scope: &mut [usize],
-    slots: &mut [[u32; 4]],
+    slots: &mut [[u32; Slot::NUMBERS]],
     names: &mut [[u32; Scope::MAX_NAME]],
     name: &[u32],
-    list: &[[u32; 4]],
+    list: &[[u32; Listed::NUMBERS]],
     cells: &[u32],
     answer: &mut [usize],
 ) -> u32
@@ -151,7 +153,7 @@ pub extern "C" fn feel_scope_set_context(
 #[no_mangle]
 pub extern "C" fn feel_scope_add_parsed_name(
     scope: &mut [usize],
-    slots: &mut [[u32; 4]],
+    slots: &mut [[u32; Slot::NUMBERS]],
     names: &mut [[u32; Scope::MAX_NAME]],
     name: &[u32],
     answer: &mut [usize],

@@ -9,6 +9,7 @@ use runs::call;
 use runs::cell;
 use runs::item::Item;
 use scope::scope::Scope;
+use scope::scope::Slot;
 use text::refusal::Refusal;
 
 // The refusal of an answer and a lexer; 0 is none. An answer of its size is set to place 0.
@@ -58,7 +59,7 @@ pub extern "C" fn feel_next_token(
     lexer: &mut [usize],
     text: &[u32],
     scope: &[usize],
-    slots: &[[u32; 4]],
+    slots: &[[u32; Slot::NUMBERS]],
     names: &[[u32; Scope::MAX_NAME]],
     out: &mut [u32],
     scratch: &mut [u32],

@@ -3,7 +3,9 @@ use crate::answers;
 use scope::broken;
 use scope::keys;
 use scope::scope::Changed;
+use scope::scope::Listed;
 use scope::scope::Scope;
+use scope::scope::Slot;
 use scope_calls::naming;
 use scope_calls::parsed;
 use scope_calls::push;
@@ -15,17 +17,17 @@ const ABC: [u32; 3] = [0x61, 0x62, 0x63];
 const X: [u32; 1] = [0x78];
 
 // Lists of one variable: the first, the third of the characters.
-const FIRST: [[u32; 4]; 1] = [[0, 0, 0, 1]];
+const FIRST: [[u32; Listed::NUMBERS]; 1] = [[0, 0, 0, 1]];
 
-const THIRD: [[u32; 4]; 1] = [[0, 0, 2, 1]];
+const THIRD: [[u32; Listed::NUMBERS]; 1] = [[0, 0, 2, 1]];
 
 // Broken: no scalar value, and an entry without a parent.
 const BAD: [u32; 1] = [0xD800];
 
-const ORPHAN: [[u32; 4]; 1] = [[1, 0, 0, 1]];
+const ORPHAN: [[u32; Listed::NUMBERS]; 1] = [[1, 0, 0, 1]];
 
 // Contexts each below the one before, depths 0 to 8.
-const DEEP: [[u32; 4]; 9] = [
+const DEEP: [[u32; Listed::NUMBERS]; 9] = [
     [0, 1, 0, 1],
     [1, 1, 0, 1],
     [2, 1, 0, 1],
@@ -48,9 +50,9 @@ fn after(r: Changed, s: Scope) -> Scope {
 fn pushed(
     text: &[u8],
     s: Scope,
-    slots: &mut [[u32; 4]; 768],
-    names: &mut [[u32; Scope::MAX_NAME]; 768],
-    rows: &[[u32; 4]],
+    slots: &mut [[u32; Slot::NUMBERS]; Scope::ROWS],
+    names: &mut [[u32; Scope::MAX_NAME]; Scope::ROWS],
+    rows: &[[u32; Listed::NUMBERS]],
     cells: &[u32],
 ) -> Scope {
     let r = push::push(s, slots, names, rows, cells);
@@ -61,8 +63,8 @@ fn pushed(
 fn pushed_empty(
     text: &[u8],
     s: Scope,
-    slots: &[[u32; 4]; 768],
-    names: &[[u32; Scope::MAX_NAME]; 768],
+    slots: &[[u32; Slot::NUMBERS]; Scope::ROWS],
+    names: &[[u32; Scope::MAX_NAME]; Scope::ROWS],
 ) -> Scope {
     let r = stack::push_default(s, slots, names);
     answers::answer(text, r);
@@ -72,8 +74,8 @@ fn pushed_empty(
 fn popped(
     text: &[u8],
     s: Scope,
-    slots: &[[u32; 4]; 768],
-    names: &[[u32; Scope::MAX_NAME]; 768],
+    slots: &[[u32; Slot::NUMBERS]; Scope::ROWS],
+    names: &[[u32; Scope::MAX_NAME]; Scope::ROWS],
 ) -> Scope {
     let r = stack::pop(s, slots, names);
     answers::answer(text, r);
@@ -83,8 +85,8 @@ fn popped(
 fn named(
     text: &[u8],
     s: Scope,
-    slots: &mut [[u32; 4]; 768],
-    names: &mut [[u32; Scope::MAX_NAME]; 768],
+    slots: &mut [[u32; Slot::NUMBERS]; Scope::ROWS],
+    names: &mut [[u32; Scope::MAX_NAME]; Scope::ROWS],
     name: &[u32],
 ) -> Scope {
     let r = naming::set_entry_name(s, slots, names, name);
@@ -95,10 +97,10 @@ fn named(
 fn context_named(
     text: &[u8],
     s: Scope,
-    slots: &mut [[u32; 4]; 768],
-    names: &mut [[u32; Scope::MAX_NAME]; 768],
+    slots: &mut [[u32; Slot::NUMBERS]; Scope::ROWS],
+    names: &mut [[u32; Scope::MAX_NAME]; Scope::ROWS],
     name: &[u32],
-    rows: &[[u32; 4]],
+    rows: &[[u32; Listed::NUMBERS]],
     cells: &[u32],
 ) -> Scope {
     let r = naming::set_context(s, slots, names, name, rows, cells);
@@ -109,8 +111,8 @@ fn context_named(
 fn added(
     text: &[u8],
     s: Scope,
-    slots: &mut [[u32; 4]; 768],
-    names: &mut [[u32; Scope::MAX_NAME]; 768],
+    slots: &mut [[u32; Slot::NUMBERS]; Scope::ROWS],
+    names: &mut [[u32; Scope::MAX_NAME]; Scope::ROWS],
     name: &[u32],
 ) -> Scope {
     let r = parsed::add_parsed_name(s, slots, names, name);
@@ -119,7 +121,12 @@ fn added(
 }
 
 // Whether a text is a name; a broken scope has none.
-fn has(s: Scope, slots: &[[u32; 4]], names: &[[u32; Scope::MAX_NAME]], text: &[u32]) -> bool {
+fn has(
+    s: Scope,
+    slots: &[[u32; Slot::NUMBERS]],
+    names: &[[u32; Scope::MAX_NAME]],
+    text: &[u32],
+) -> bool {
     if broken::is_broken(s, slots, names) {
         return false;
     }
@@ -129,8 +136,8 @@ fn has(s: Scope, slots: &[[u32; 4]], names: &[[u32; Scope::MAX_NAME]], text: &[u
 fn asked(
     text: &[u8],
     s: Scope,
-    slots: &[[u32; 4]; 768],
-    names: &[[u32; Scope::MAX_NAME]; 768],
+    slots: &[[u32; Slot::NUMBERS]; Scope::ROWS],
+    names: &[[u32; Scope::MAX_NAME]; Scope::ROWS],
     name: &[u32],
 ) {
     answers::name(text, has(s, slots, names, name));
@@ -146,7 +153,7 @@ fn write_cells(cells: &mut [u32; 514]) {
 }
 
 // A list of variables that are named by the cells in order.
-fn write_list(rows: &mut [[u32; 4]; 514]) {
+fn write_list(rows: &mut [[u32; Listed::NUMBERS]; 514]) {
     let mut i: usize = 0;
     while i < 514 {
         rows[i] = [0, 0, i as u32, 1];
@@ -156,20 +163,23 @@ fn write_list(rows: &mut [[u32; 4]; 514]) {
 
 fn pushed_all(
     text: &[u8],
-    slots: &mut [[u32; 4]; 768],
-    names: &mut [[u32; Scope::MAX_NAME]; 768],
-    rows: &[[u32; 4]; 514],
+    slots: &mut [[u32; Slot::NUMBERS]; Scope::ROWS],
+    names: &mut [[u32; Scope::MAX_NAME]; Scope::ROWS],
+    rows: &[[u32; Listed::NUMBERS]; 514],
     cells: &[u32; 514],
 ) -> Scope {
     pushed(text, Scope::opened(), slots, names, rows, cells)
 }
 
 // A list that is over the limit as it stands, and within it once repeats are replaced; the scope with 512 entries that it leaves.
-fn entries(slots: &mut [[u32; 4]; 768], names: &mut [[u32; Scope::MAX_NAME]; 768]) -> Scope {
+fn entries(
+    slots: &mut [[u32; Slot::NUMBERS]; Scope::ROWS],
+    names: &mut [[u32; Scope::MAX_NAME]; Scope::ROWS],
+) -> Scope {
     say::words(b"Entries\n");
     let mut cells = [0u32; 514];
     write_cells(&mut cells);
-    let mut rows = [[0u32; 4]; 514];
+    let mut rows = [[0u32; Listed::NUMBERS]; 514];
     write_list(&mut rows);
     pushed_all(b"514 entries", slots, names, &rows, &cells);
     rows[513] = [0, 0, 1, 1];
@@ -191,8 +201,8 @@ fn entries(slots: &mut [[u32; 4]; 768], names: &mut [[u32; Scope::MAX_NAME]; 768
 }
 
 fn full() {
-    let mut slots = [[0u32; 4]; 768];
-    let mut names = [[0u32; 128]; 768];
+    let mut slots = [[0u32; Slot::NUMBERS]; Scope::ROWS];
+    let mut names = [[0u32; Scope::MAX_NAME]; Scope::ROWS];
     let s = entries(&mut slots, &mut names);
     named(b"a variable of another name", s, &mut slots, &mut names, &X);
     let t = named(
@@ -216,7 +226,10 @@ fn full() {
     added(b"a parsed name", more, &mut slots, &mut names, &X);
 }
 
-fn all_contexts(slots: &[[u32; 4]; 768], names: &[[u32; Scope::MAX_NAME]; 768]) -> Scope {
+fn all_contexts(
+    slots: &[[u32; Slot::NUMBERS]; Scope::ROWS],
+    names: &[[u32; Scope::MAX_NAME]; Scope::ROWS],
+) -> Scope {
     let mut s = Scope::opened();
     let mut i: usize = 0;
     while i < 31 {
@@ -228,8 +241,8 @@ fn all_contexts(slots: &[[u32; 4]; 768], names: &[[u32; Scope::MAX_NAME]; 768]) 
 
 fn contexts() {
     say::words(b"Contexts\n");
-    let mut slots = [[0u32; 4]; 768];
-    let mut names = [[0u32; 128]; 768];
+    let mut slots = [[0u32; Slot::NUMBERS]; Scope::ROWS];
+    let mut names = [[0u32; Scope::MAX_NAME]; Scope::ROWS];
     let s = all_contexts(&slots, &names);
     answers::answer(b"31 contexts pushed onto the first", Changed::Done(s));
     pushed_empty(b"an empty one more", s, &slots, &names);
@@ -248,7 +261,10 @@ fn contexts() {
 }
 
 // A scope with 256 parsed names, from 0x4E00 on.
-fn all_parsed(slots: &mut [[u32; 4]; 768], names: &mut [[u32; Scope::MAX_NAME]; 768]) -> Scope {
+fn all_parsed(
+    slots: &mut [[u32; Slot::NUMBERS]; Scope::ROWS],
+    names: &mut [[u32; Scope::MAX_NAME]; Scope::ROWS],
+) -> Scope {
     let mut s = Scope::opened();
     let mut i: usize = 0;
     while i < 256 {
@@ -261,8 +277,8 @@ fn all_parsed(slots: &mut [[u32; 4]; 768], names: &mut [[u32; Scope::MAX_NAME]; 
 
 fn parsed_names() {
     say::words(b"Parsed names\n");
-    let mut slots = [[0u32; 4]; 768];
-    let mut names = [[0u32; 128]; 768];
+    let mut slots = [[0u32; Slot::NUMBERS]; Scope::ROWS];
+    let mut names = [[0u32; Scope::MAX_NAME]; Scope::ROWS];
     let s = all_parsed(&mut slots, &mut names);
     answers::answer(b"256 parsed names", Changed::Done(s));
     added(b"one of them again", s, &mut slots, &mut names, &[0x4E64]);
@@ -275,8 +291,8 @@ fn parsed_names() {
 
 fn used_again() {
     say::words(b"Rows used again\n");
-    let mut slots = [[0u32; 4]; 768];
-    let mut names = [[0u32; 128]; 768];
+    let mut slots = [[0u32; Slot::NUMBERS]; Scope::ROWS];
+    let mut names = [[0u32; Scope::MAX_NAME]; Scope::ROWS];
     let two = [[0u32, 0, 0, 1], [0, 0, 1, 1]];
     let s = pushed(
         b"a and b pushed",
@@ -297,8 +313,8 @@ fn used_again() {
 
 fn lengths() {
     say::words(b"Names\n");
-    let mut slots = [[0u32; 4]; 768];
-    let mut names = [[0u32; 128]; 768];
+    let mut slots = [[0u32; Slot::NUMBERS]; Scope::ROWS];
+    let mut names = [[0u32; Scope::MAX_NAME]; Scope::ROWS];
     let long = [0x61u32; 129];
     let s = named(
         b"an empty name",
@@ -331,8 +347,8 @@ fn lengths() {
 
 fn lists() {
     say::words(b"Lists\n");
-    let mut slots = [[0u32; 4]; 768];
-    let mut names = [[0u32; 128]; 768];
+    let mut slots = [[0u32; Slot::NUMBERS]; Scope::ROWS];
+    let mut names = [[0u32; Scope::MAX_NAME]; Scope::ROWS];
     let s = Scope::opened();
     pushed(b"depth 1 first", s, &mut slots, &mut names, &ORPHAN, &ABC);
     pushed(
@@ -364,8 +380,8 @@ fn lists() {
 
 fn depths() {
     say::words(b"Depths\n");
-    let mut slots = [[0u32; 4]; 768];
-    let mut names = [[0u32; 128]; 768];
+    let mut slots = [[0u32; Slot::NUMBERS]; Scope::ROWS];
+    let mut names = [[0u32; Scope::MAX_NAME]; Scope::ROWS];
     let s = Scope::opened();
     pushed(
         b"depths 0 to 7",
@@ -398,8 +414,8 @@ fn depths() {
 
 fn replaced() {
     say::words(b"Context and variable of one name\n");
-    let mut slots = [[0u32; 4]; 768];
-    let mut names = [[0u32; 128]; 768];
+    let mut slots = [[0u32; Slot::NUMBERS]; Scope::ROWS];
+    let mut names = [[0u32; Scope::MAX_NAME]; Scope::ROWS];
     let key = [0x78u32, 0x20, 0x2E, 0x20, 0x61];
     let s = context_named(
         b"x, a context of a",
@@ -430,8 +446,8 @@ fn replaced() {
 
 fn empty_stack() {
     say::words(b"Empty stack\n");
-    let mut slots = [[0u32; 4]; 768];
-    let mut names = [[0u32; 128]; 768];
+    let mut slots = [[0u32; Slot::NUMBERS]; Scope::ROWS];
+    let mut names = [[0u32; Scope::MAX_NAME]; Scope::ROWS];
     let s = popped(b"popped", Scope::opened(), &slots, &names);
     popped(b"popped again", s, &slots, &names);
     named(b"a variable", s, &mut slots, &mut names, &X);
@@ -443,8 +459,8 @@ fn empty_stack() {
 
 fn nested() {
     say::words(b"Nested repeats\n");
-    let mut slots = [[0u32; 4]; 768];
-    let mut names = [[0u32; 128]; 768];
+    let mut slots = [[0u32; Slot::NUMBERS]; Scope::ROWS];
+    let mut names = [[0u32; Scope::MAX_NAME]; Scope::ROWS];
     let cells = [0x6Fu32, 0x6E, 0x76, 0x77, 0x70];
     let again = [
         [0u32, 1, 0, 1],
@@ -478,8 +494,8 @@ fn nested() {
 // Scopes that no call left so.
 fn lent() {
     say::words(b"Lent scopes\n");
-    let mut slots = [[0u32; 4]; 768];
-    let names = [[0u32; 128]; 768];
+    let mut slots = [[0u32; Slot::NUMBERS]; Scope::ROWS];
+    let names = [[0u32; Scope::MAX_NAME]; Scope::ROWS];
     let over = Scope {
         contexts: 33,
         entries: 0,

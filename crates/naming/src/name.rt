@@ -28,6 +28,7 @@ use lexer::token::Outcome;
 use lexer::token::Read;
 use lexer::token_type::TokenType;
 use scope::scope::Scope;
+use scope::scope::Slot;
 use text::chars::Char;
 use text::refusal::Refusal;
 
@@ -194,7 +195,7 @@ fn by_prefix(
     end: usize,
     flags: Flags,
     s: Scope,
-    slots: &[[u32; 4]],
+    slots: &[[u32; Slot::NUMBERS]],
     names: &[[u32; Scope::MAX_NAME]],
     cap: usize,
     out: &mut [u32],
@@ -223,7 +224,7 @@ fn by_colon(
     end: usize,
     flags: Flags,
     s: Scope,
-    slots: &[[u32; 4]],
+    slots: &[[u32; Slot::NUMBERS]],
     names: &[[u32; Scope::MAX_NAME]],
     cap: usize,
     out: &mut [u32],
@@ -259,7 +260,7 @@ fn by_in(
     end: usize,
     flags: Flags,
     s: Scope,
-    slots: &[[u32; 4]],
+    slots: &[[u32; Slot::NUMBERS]],
     names: &[[u32; Scope::MAX_NAME]],
     cap: usize,
     out: &mut [u32],
@@ -318,7 +319,7 @@ pub fn read_name(
     i: usize,
     flags: Flags,
     s: Scope,
-    slots: &[[u32; 4]],
+    slots: &[[u32; Slot::NUMBERS]],
     names: &[[u32; Scope::MAX_NAME]],
     cap: usize,
     out: &mut [u32],

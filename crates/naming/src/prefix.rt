@@ -14,6 +14,7 @@ ghost use Rattle.lexer.specs.FlagsOf.{flagsOf};
 ghost use Rattle.lexer.specs.Fit.{Clear, Asked, Longest, Searchable};
 use lexer::flags::Flags;
 use scope::scope::Scope;
+use scope::scope::Slot;
 
 // Sets the first n cells to 0.
 pub fn clear(buf: &mut [u32], n: usize)
@@ -38,7 +39,7 @@ fn find(
     text: &[u32],
     flags: Flags,
     s: Scope,
-    slots: &[[u32; 4]],
+    slots: &[[u32; Slot::NUMBERS]],
     names: &[[u32; Scope::MAX_NAME]],
 ) -> Finding
     requires { ⌜ isBroken (lent s (now slots) (now names)) ≡ false ⌝ }
@@ -71,7 +72,7 @@ fn find_parts(
     m: usize,
     flags: Flags,
     s: Scope,
-    slots: &[[u32; 4]],
+    slots: &[[u32; Slot::NUMBERS]],
     names: &[[u32; Scope::MAX_NAME]],
     scratch: &mut [u32],
 ) -> Finding
@@ -99,7 +100,7 @@ fn longest(
     n: usize,
     flags: Flags,
     s: Scope,
-    slots: &[[u32; 4]],
+    slots: &[[u32; Slot::NUMBERS]],
     names: &[[u32; Scope::MAX_NAME]],
     scratch: &mut [u32],
 ) -> Prefix
@@ -143,7 +144,7 @@ pub fn longest_prefix(
     n: usize,
     flags: Flags,
     s: Scope,
-    slots: &[[u32; 4]],
+    slots: &[[u32; Slot::NUMBERS]],
     names: &[[u32; Scope::MAX_NAME]],
     cap: usize,
     scratch: &mut [u32],

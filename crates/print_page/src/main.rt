@@ -5,9 +5,14 @@ use records::page;
 use records::page::Page;
 use records::stored::Stored;
 use runs::call::Made;
+use runs::item::Item;
 use scope::scope::Scope;
+use scope::scope::Slot;
 use text::refusal::Refusal;
 use text::utf8::Opening;
+
+// Of a longer rule the first bytes are read.
+const MAX_INPUT: usize = 128;
 
 fn word(text: &[u8]) {
     io::write_all(1, text);
@@ -52,7 +57,7 @@ fn print_items(p: Page, count: usize) {
 }
 
 // The items of the first n rows; more than a page holds are 9.
-fn print_rows(rows: &[[u32; 11]], n: usize) {
+fn print_rows(rows: &[[u32; Item::NUMBERS]], n: usize) {
     if rows.len() < n {
         return;
     }
@@ -73,11 +78,11 @@ fn print_text(text: &[u32]) {
         till_in: false,
         after_dot: false,
     };
-    let slots = [[0u32; 4]; 768];
-    let names = [[0u32; Scope::MAX_NAME]; 768];
-    let mut rows = [[0u32; 11]; 130];
-    let mut store = [0u32; 128];
-    let mut scratch = [0u32; 256];
+    let slots = [[0u32; Slot::NUMBERS]; Scope::ROWS];
+    let names = [[0u32; Scope::MAX_NAME]; Scope::ROWS];
+    let mut rows = [[0u32; Item::NUMBERS]; MAX_INPUT + 2];
+    let mut store = [0u32; MAX_INPUT];
+    let mut scratch = [0u32; 2 * MAX_INPUT];
     let made = runs::run::run(
         text,
         TokenType::START_EXPRESSION,
@@ -104,9 +109,9 @@ fn print_front(cells: &[u32], n: usize) {
 }
 
 fn main() {
-    let mut bytes = [0u8; 128];
+    let mut bytes = [0u8; MAX_INPUT];
     let n = io::read_full(0, &mut bytes);
-    let mut cells = [0u32; 128];
+    let mut cells = [0u32; MAX_INPUT];
     let opening = text::utf8::open_bytes(&bytes[..n], &mut cells);
     match opening {
         Opening::Opened(t) => print_front(&cells, t.chars),

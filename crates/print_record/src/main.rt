@@ -3,7 +3,7 @@
 use printing::print;
 
 fn main() {
-    let mut input = [0u8; 2049];
+    let mut input = [0u8; print::MAX_INPUT + 1];
     let n = io::read_full(0, &mut input);
     let mut out = [0u8; print::MAX_PRINTED];
     let k = print::print(&input[..n], &mut out);

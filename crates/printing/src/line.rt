@@ -54,7 +54,7 @@ fn put_type(refused: u32, n: u32, out: &mut [u32], k: usize) -> usize
 }
 
 // Writes the line of item n behind the k characters at the front of out.
-fn put_line(n: usize, row: [u32; 11], store: &[u32], out: &mut [u32], k: usize) -> usize
+fn put_line(n: usize, row: [u32; Item::NUMBERS], store: &[u32], out: &mut [u32], k: usize) -> usize
     requires { ⌜ k + length (spec.line n (itemOf (now store) row)) ≤ length (now out) ⌝ }
     ensures { λ r. ⌜ Further (now (out .entry)) k (spec.line n (itemOf (now (store .entry)) row)) r (now (out .exit)) ⌝ }
 {
@@ -68,7 +68,12 @@ fn put_line(n: usize, row: [u32; 11], store: &[u32], out: &mut [u32], k: usize) 
 
 // Writes the lines of the first so many rows to the front of out.
 // Ruled out, among others: items counted from 1; a line for each row that is lent.
-pub fn put_lines(rows: &[[u32; 11]], count: usize, store: &[u32], out: &mut [u32]) -> usize
+pub fn put_lines(
+    rows: &[[u32; Item::NUMBERS]],
+    count: usize,
+    store: &[u32],
+    out: &mut [u32],
+) -> usize
     requires { ⌜ (count ≤ length (now rows)) × (length (spec.lines 0 (unpack (record { rows = take count (now rows); store = now store }))) ≤ length (now out)) ⌝ }
     ensures { λ r. ⌜ Wrote (now (out .entry)) (spec.lines 0 (unpack (record { rows = take count (now (rows .entry)); store = now (store .entry) }))) r (now (out .exit)) ⌝ }
 {

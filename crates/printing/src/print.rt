@@ -7,6 +7,9 @@ ghost use Rattle.runs.specs.Print as spec;
 ghost use Rattle.printing.specs.Room.{maxPrinted};
 use crate::printed;
 
+// 01: the record program takes up to 2,048 bytes.
+pub const MAX_INPUT: usize = 2_048;
+
 // All that can be printed has room in so many bytes.
 pub const MAX_PRINTED: usize = 137_328;
 

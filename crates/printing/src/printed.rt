@@ -11,25 +11,25 @@ ghost use Rattle.runs.specs.Run.{runItems};
 ghost use Rattle.runs.specs.Print as spec;
 ghost use Rattle.printing.specs.Room.{maxInput, maxPrinted};
 use crate::line;
+use crate::print::MAX_INPUT;
 use lexer::flags::Flags;
 use lexer::token_type::TokenType;
 use runs::call::Made;
+use runs::item::Item;
 use scope::scope::Scope;
+use scope::scope::Slot;
 use text::utf8::Opening;
-
-// 01: it takes up to 2,048 bytes.
-const MAX_INPUT: usize = 2_048;
 
 // Writes the lines of the record of the first n cells. The default scope has no names, so its rows are never read.
 fn put_record(cells: &[u32], n: usize, out: &mut [u32]) -> usize
     requires { ⌜ (n ≤ length (now cells)) × (n ≤ maxInput) × (maxPrinted ≤ length (now out)) ⌝ }
     ensures { λ r. ⌜ Wrote (now (out .entry)) (spec.lines 0 (runItems (readToken (isName opened)) type.StartExpression noFlags (take n (now (cells .entry))))) r (now (out .exit)) ⌝ }
 {
-    let slots = [[0u32; 4]; 768];
-    let names = [[0u32; 128]; 768];
-    let mut rows = [[0u32; 11]; 2050];
-    let mut store = [0u32; 2048];
-    let mut scratch = [0u32; 4096];
+    let slots = [[0u32; Slot::NUMBERS]; Scope::ROWS];
+    let names = [[0u32; Scope::MAX_NAME]; Scope::ROWS];
+    let mut rows = [[0u32; Item::NUMBERS]; MAX_INPUT + 2];
+    let mut store = [0u32; MAX_INPUT];
+    let mut scratch = [0u32; 2 * MAX_INPUT];
     let flags = Flags {
         unary_tests: false,
         between: false,
@@ -63,7 +63,7 @@ pub fn put_printed(bytes: &[u8], out: &mut [u32]) -> usize
     if MAX_INPUT < bytes.len() {
         return line::put_refused(1, 0, out);
     }
-    let mut cells = [0u32; 2048];
+    let mut cells = [0u32; MAX_INPUT];
     let opening = text::utf8::open_bytes(bytes, &mut cells);
     match opening {
         Opening::Opened(t) => put_record(&cells, t.chars, out),

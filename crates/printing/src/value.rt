@@ -171,7 +171,7 @@ fn is_text(n: u32) -> bool
 }
 
 // The cells of an item's value.
-fn value_of(row: [u32; 11], store: &[u32]) -> &[u32]
+fn value_of(row: [u32; Item::NUMBERS], store: &[u32]) -> &[u32]
     ensures { λ r. ⌜ now r ≡ itemOf (now (store .entry)) row .value ⌝ }
 {
     let n = store.len();
@@ -182,7 +182,7 @@ fn value_of(row: [u32; 11], store: &[u32]) -> &[u32]
 
 // Writes the value field of an item behind the k characters at the front of out.
 // Ruled out, among others: a name printed as `-`; the digits of a number without its sign.
-pub fn put_value(row: [u32; 11], store: &[u32], out: &mut [u32], k: usize) -> usize
+pub fn put_value(row: [u32; Item::NUMBERS], store: &[u32], out: &mut [u32], k: usize) -> usize
     requires { ⌜ k + length (spec.valueField (itemOf (now store) row)) ≤ length (now out) ⌝ }
     ensures { λ r. ⌜ Further (now (out .entry)) k (spec.valueField (itemOf (now (store .entry)) row)) r (now (out .exit)) ⌝ }
 {

@@ -8,6 +8,7 @@ ghost use Rattle.records.specs.Stored.{blank, storedOf, rowFrom};
 ghost use Rattle.records.specs.Items.{Copies};
 use crate::stored;
 use crate::stored::Stored;
+use runs::item::Item;
 use text::refusal::Refusal;
 
 // The item at i.
@@ -30,7 +31,7 @@ fn put_item(items: &mut [Stored], i: usize, it: Stored)
 
 // The stored item of the row at i.
 // Ruled out, among others: the first row for each; a blank item.
-fn read_row(rows: &[[u32; 11]], i: usize) -> Stored
+fn read_row(rows: &[[u32; Item::NUMBERS]], i: usize) -> Stored
     requires { ⌜ i < length (now rows) ⌝ }
     ensures { λ r. ⌜ r ≡ storedOf (getD (now (rows .entry)) i []) ⌝ }
 {
@@ -39,7 +40,7 @@ fn read_row(rows: &[[u32; 11]], i: usize) -> Stored
 
 // Writes the row of an item to the place i.
 // Ruled out, among others: the row left as it was; a row written beside its place.
-fn write_row(rows: &mut [[u32; 11]], i: usize, it: Stored)
+fn write_row(rows: &mut [[u32; Item::NUMBERS]], i: usize, it: Stored)
     requires { ⌜ i < length (now rows) ⌝ }
     ensures { λ _. ⌜ now (rows .exit) ≡ set (now (rows .entry)) i (rowFrom it) ⌝ }
 {
@@ -49,7 +50,7 @@ fn write_row(rows: &mut [[u32; 11]], i: usize, it: Stored)
 
 // Writes the items of the first n rows to the front of the items.
 // Ruled out, among others: the last of them left out; an item behind them touched.
-fn unpack(rows: &[[u32; 11]], items: &mut [Stored], n: usize)
+fn unpack(rows: &[[u32; Item::NUMBERS]], items: &mut [Stored], n: usize)
     requires { ⌜ (n ≤ length (now rows)) × (n ≤ length (now items)) ⌝ }
     ensures { λ _. ⌜ now (items .exit) ≡ front (map storedOf (take n (now (rows .entry)))) (now (items .entry)) ⌝ }
 {
@@ -63,7 +64,7 @@ fn unpack(rows: &[[u32; 11]], items: &mut [Stored], n: usize)
 
 // Writes the rows of the first n items to the front of the rows.
 // Ruled out, among others: the rows of other items; a row behind them touched.
-fn pack(items: &[Stored], rows: &mut [[u32; 11]], n: usize)
+fn pack(items: &[Stored], rows: &mut [[u32; Item::NUMBERS]], n: usize)
     requires { ⌜ (n ≤ length (now items)) × (n ≤ length (now rows)) ⌝ }
     ensures { λ _. ⌜ now (rows .exit) ≡ front (map rowFrom (take n (now (items .entry)))) (now (rows .entry)) ⌝ }
 {
@@ -77,7 +78,7 @@ fn pack(items: &[Stored], rows: &mut [[u32; 11]], n: usize)
 
 // Reads all rows: their items fill the front of the items. Too few items are 9, and all of them stay; 0 is none.
 // Ruled out, among others: as many rows read as there are items, where these are too few; the last row left out.
-pub fn read_items(rows: &[[u32; 11]], items: &mut [Stored]) -> u32
+pub fn read_items(rows: &[[u32; Item::NUMBERS]], items: &mut [Stored]) -> u32
     ensures { λ r. ⌜ Copies storedOf (now (rows .entry)) (now (items .entry)) r (now (items .exit)) ⌝ }
 {
     if items.len() < rows.len() {
@@ -89,7 +90,7 @@ pub fn read_items(rows: &[[u32; 11]], items: &mut [Stored]) -> u32
 
 // Writes all items: their rows fill the front of the rows. Too few rows are 9, and all of them stay; 0 is none.
 // Ruled out, among others: a refused call that has written to the rows; a row behind them touched.
-pub fn write_items(items: &[Stored], rows: &mut [[u32; 11]]) -> u32
+pub fn write_items(items: &[Stored], rows: &mut [[u32; Item::NUMBERS]]) -> u32
     ensures { λ r. ⌜ Copies rowFrom (now (items .entry)) (now (rows .entry)) r (now (rows .exit)) ⌝ }
 {
     if rows.len() < items.len() {

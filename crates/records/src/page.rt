@@ -4,6 +4,7 @@ ghost use Rattle.records.specs.Items.{Copies, blankPage};
 use crate::items;
 use crate::stored::Stored;
 use lexer::flags::Flags;
+use runs::item::Item;
 
 // What `read_items` answers, and the items that it was lent.
 pub struct Page {
@@ -17,7 +18,7 @@ impl Page {
 
 // The items of at most 32 rows, and blank ones behind them: more rows are 9.
 // Ruled out, among others: a page of the first rows where there are more; a blank page.
-pub fn page_of(rows: &[[u32; 11]]) -> Page
+pub fn page_of(rows: &[[u32; Item::NUMBERS]]) -> Page
     ensures { λ r. ⌜ Copies storedOf (now (rows .entry)) blankPage (r .refusal) (r .items) ⌝ }
 {
     let none = Flags {

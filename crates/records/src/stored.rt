@@ -22,7 +22,7 @@ pub struct Stored {
 
 // The stored item of a row.
 // Ruled out, among others: the reach taken for the position; a flag taken for its neighbour.
-pub fn item_of(row: [u32; 11]) -> Stored
+pub fn item_of(row: [u32; Item::NUMBERS]) -> Stored
     ensures { λ r. ⌜ r ≡ storedOf row ⌝ }
 {
     let flags = item::bit_flags(row[Item::FLAGS]);
@@ -43,7 +43,7 @@ pub fn item_of(row: [u32; 11]) -> Stored
 
 // The row of a stored item.
 // Ruled out, among others: a value's start left out; the flags of another item.
-pub fn row_of(it: Stored) -> [u32; 11]
+pub fn row_of(it: Stored) -> [u32; Item::NUMBERS]
     ensures { λ r. ⌜ r ≡ rowFrom it ⌝ }
 {
     let flags = item::flag_bits(it.flags);

@@ -3,8 +3,10 @@ ghost use mathlib.Core.Path.{_≡_};
 ghost use lib.Dec.{eqb};
 ghost use lib.ListN.{drop};
 ghost use Rattle.refusals.specs.Filled.{all, sameRows};
+use runs::item::Item;
 use scope::compare;
 use scope::scope::Scope;
+use scope::scope::Slot;
 
 // Whether all cells from a place on are this number.
 pub fn is_filled(cells: &[u32], from: usize, x: u32) -> bool
@@ -21,7 +23,7 @@ pub fn is_filled(cells: &[u32], from: usize, x: u32) -> bool
 }
 
 // Whether all cells of all rows from a place on are.
-pub fn are_filled(rows: &[[u32; 11]], from: usize, x: u32) -> bool
+pub fn are_filled(rows: &[[u32; Item::NUMBERS]], from: usize, x: u32) -> bool
     ensures { λ r. ⌜ r ≡ all (all (λ c. eqb c x)) (drop from (now (rows .entry))) ⌝ }
 {
     let mut i = from;
@@ -35,7 +37,7 @@ pub fn are_filled(rows: &[[u32; 11]], from: usize, x: u32) -> bool
 }
 
 // Whether two lists of rows are the same, cell by cell.
-pub fn same_slots(a: &[[u32; 4]], b: &[[u32; 4]]) -> bool
+pub fn same_slots(a: &[[u32; Slot::NUMBERS]], b: &[[u32; Slot::NUMBERS]]) -> bool
     ensures { λ r. ⌜ r ≡ sameRows (now (a .entry)) (now (b .entry)) ⌝ }
 {
     let mut i: usize = 0;

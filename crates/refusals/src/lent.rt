@@ -1,44 +1,54 @@
-// What is lent, filled with one number or letter. A contract says only how much it is, which lending asks for.
+// What is lent, filled with one number or letter, and longer than the limits ask for.
 ghost use mathlib.Core.Path.{_≡_};
-ghost use lib.ListN.{length};
+ghost use Prim.Native.Nat.{_+_, _*_};
+ghost use lib.ListN.{length, replicate};
+ghost use Rattle.text.specs.Limits.{maxChars, maxBytes};
+ghost use Rattle.scope.specs.Limits.{maxEntries, maxParsed, maxName};
+use runs::item::Item;
+use scope::scope::Scope;
+use scope::scope::Slot;
+use text::utf8::Text;
 
 // What output, rows, store, scratch and the rows of a scope are filled with before a call.
 pub const FILL: u32 = 7;
 
-pub fn slots() -> [[u32; 4]; 768]
-    ensures { λ r. ⌜ 768 ≡ length r ⌝ }
+// Each contract says the length, too: lending asks for it.
+pub fn slots() -> [[u32; Slot::NUMBERS]; Scope::ROWS]
+    ensures { λ r. ⌜ (maxEntries + maxParsed ≡ length r) × (r ≡ replicate (maxEntries + maxParsed) (replicate 4 7)) ⌝ }
 {
-    [[FILL; 4]; 768]
+    [[FILL; Slot::NUMBERS]; Scope::ROWS]
 }
 
-pub fn names() -> [[u32; 128]; 768]
-    ensures { λ r. ⌜ 768 ≡ length r ⌝ }
+pub fn names() -> [[u32; Scope::MAX_NAME]; Scope::ROWS]
+    ensures { λ r. ⌜ (maxEntries + maxParsed ≡ length r) × (r ≡ replicate (maxEntries + maxParsed) (replicate maxName 7)) ⌝ }
 {
-    [[FILL; 128]; 768]
+    [[FILL; Scope::MAX_NAME]; Scope::ROWS]
 }
 
-pub fn rows() -> [[u32; 11]; 16387]
-    ensures { λ r. ⌜ 16_387 ≡ length r ⌝ }
+// One row more than the longest record has.
+pub fn rows() -> [[u32; Item::NUMBERS]; Text::MAX_CHARS + 3]
+    ensures { λ r. ⌜ (maxChars + 3 ≡ length r) × (r ≡ replicate (maxChars + 3) (replicate 11 7)) ⌝ }
 {
-    [[FILL; 11]; 16387]
+    [[FILL; Item::NUMBERS]; Text::MAX_CHARS + 3]
 }
 
-pub fn cells() -> [u32; 32770]
-    ensures { λ r. ⌜ 32_770 ≡ length r ⌝ }
+// Scratch for a text that is longer by one than the limit.
+pub fn cells() -> [u32; 2 * Text::MAX_CHARS + 2]
+    ensures { λ r. ⌜ (2 * maxChars + 2 ≡ length r) × (r ≡ replicate (2 * maxChars + 2) 7) ⌝ }
 {
-    [FILL; 32770]
+    [FILL; 2 * Text::MAX_CHARS + 2]
 }
 
 // A text of one character alone, longer by one than the limit.
-pub fn text(c: u32) -> [u32; 16385]
-    ensures { λ r. ⌜ 16_385 ≡ length r ⌝ }
+pub fn text(c: u32) -> [u32; Text::MAX_CHARS + 1]
+    ensures { λ r. ⌜ (maxChars + 1 ≡ length r) × (r ≡ replicate (maxChars + 1) c) ⌝ }
 {
-    [c; 16385]
+    [c; Text::MAX_CHARS + 1]
 }
 
 // Bytes `a`, one more than the limit.
-pub fn bytes() -> [u8; 65537]
-    ensures { λ r. ⌜ 65_537 ≡ length r ⌝ }
+pub fn bytes() -> [u8; Text::MAX_BYTES + 1]
+    ensures { λ r. ⌜ (maxBytes + 1 ≡ length r) × (r ≡ replicate (maxBytes + 1) 0x61) ⌝ }
 {
-    [0x61; 65537]
+    [b'a'; Text::MAX_BYTES + 1]
 }

@@ -6,10 +6,12 @@ use crate::filled;
 use crate::lent;
 use crate::lent::FILL;
 use crate::told;
+use lexer::flags::Flags;
 use lexer::token::Read;
 use lexer::token_type::TokenType;
 use runs::item;
 use scope::scope::Scope;
+use scope::scope::Slot;
 use text::refusal::Refusal;
 use text::utf8::Text;
 use tokens::call::Called;
@@ -17,7 +19,7 @@ use tokens::call::Lexer;
 
 // All flags are set.
 fn state(position: usize, pending: bool) -> Lexer {
-    let flags = item::bit_flags(31);
+    let flags = item::bit_flags(Flags::ALL);
     Lexer {
         position,
         flags,
@@ -95,7 +97,7 @@ fn on_lent(
     l: Lexer,
     text: &[u32],
     s: Scope,
-    slots: &[[u32; 4]],
+    slots: &[[u32; Slot::NUMBERS]],
     names: &[[u32; Scope::MAX_NAME]],
     out: &mut [u32],
     scratch: &mut [u32],
@@ -117,7 +119,7 @@ fn called(
     l: Lexer,
     text: &[u32],
     s: Scope,
-    slots: &[[u32; 4]],
+    slots: &[[u32; Slot::NUMBERS]],
     names: &[[u32; Scope::MAX_NAME]],
     out: &mut [u32],
     scratch: &mut [u32],

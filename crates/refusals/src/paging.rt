@@ -3,6 +3,7 @@ use crate::lent::FILL;
 use crate::told;
 use records::page;
 use records::page::Page;
+use runs::item::Item;
 use text::refusal::Refusal;
 
 fn wide(n: u32) -> usize {
@@ -22,7 +23,7 @@ fn answer(p: Page) {
 }
 
 // A page of the first n rows.
-fn page_front(rows: &[[u32; 11]], n: usize) {
+fn page_front(rows: &[[u32; Item::NUMBERS]], n: usize) {
     if rows.len() < n {
         return;
     }
@@ -32,7 +33,7 @@ fn page_front(rows: &[[u32; 11]], n: usize) {
 
 pub fn tried() {
     say::words(b"Rows read into a page of 32 items: rows\n");
-    let rows = [[FILL; 11]; 33];
+    let rows = [[FILL; Item::NUMBERS]; Page::ITEMS + 1];
     page_front(&rows, Page::ITEMS - 1);
     page_front(&rows, Page::ITEMS);
     page_front(&rows, Page::ITEMS + 1);

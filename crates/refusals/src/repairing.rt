@@ -9,7 +9,7 @@ use runs::item::Item;
 use text::utf8::Text;
 
 // The record of `1 a`.
-const OLD: [[u32; 11]; 4] = [
+const OLD: [[u32; Item::NUMBERS]; 4] = [
     [0, TokenType::START_EXPRESSION, 0, 0, 0, 0, 0, 0, 0, 0, 0],
     [0, TokenType::NUMERIC, 1, 0, 12, 0, 1, 1, 0, 0, 0],
     [0, TokenType::NAME, 3, 0, 14, 1, 1, 0, 0, 0, 0],
@@ -19,7 +19,7 @@ const OLD: [[u32; 11]; 4] = [
 const VALUES: [u32; 2] = [0x31, 0x61];
 
 // The record of ` +bb`, in which a place can move without another clause of 13 being broken.
-const SPACED: [[u32; 11]; 4] = [
+const SPACED: [[u32; Item::NUMBERS]; 4] = [
     [0, TokenType::START_EXPRESSION, 0, 0, 0, 0, 0, 0, 0, 0, 0],
     [0, TokenType::PLUS, 2, 0, 13, 0, 0, 0, 0, 0, 0],
     [0, TokenType::NAME, 4, 0, 14, 0, 2, 0, 0, 0, 0],
@@ -58,10 +58,10 @@ fn good(length: usize, part: usize) -> Request {
 
 fn repair_front(
     q: Request,
-    old: &[[u32; 11]],
+    old: &[[u32; Item::NUMBERS]],
     values: &[u32],
     new: &[u32],
-    all: &mut [[u32; 11]],
+    all: &mut [[u32; Item::NUMBERS]],
     store: &mut [u32],
     free: &mut [u32],
 ) {
@@ -103,18 +103,18 @@ fn repair_front(
 }
 
 // The new text is two characters and then `b`, as often as it takes.
-fn repair_from(q: Request, old: &[[u32; 11]], values: &[u32], first: u32, second: u32) {
+fn repair_from(q: Request, old: &[[u32; Item::NUMBERS]], values: &[u32], first: u32, second: u32) {
     let mut new = lent::text(0x62);
     new[0] = first;
     new[1] = second;
-    let mut all = [[FILL; 11]; 8];
+    let mut all = [[FILL; Item::NUMBERS]; 8];
     let mut store = [FILL; 8];
     let mut free = [FILL; 8];
     repair_front(q, old, values, &new, &mut all, &mut store, &mut free);
 }
 
 // The new text is `1 ` and then `b`.
-fn repair_one(q: Request, old: &[[u32; 11]], values: &[u32]) {
+fn repair_one(q: Request, old: &[[u32; Item::NUMBERS]], values: &[u32]) {
     repair_from(q, old, values, 0x31, 0x20);
 }
 
@@ -158,7 +158,7 @@ fn edits() {
     edit(2, 3, 1, 4, 1, 5, 3, 6);
 }
 
-fn old_front(q: Request, old: &[[u32; 11]], n: usize, values: &[u32], k: usize) {
+fn old_front(q: Request, old: &[[u32; Item::NUMBERS]], n: usize, values: &[u32], k: usize) {
     if old.len() < n {
         return;
     }
@@ -175,7 +175,7 @@ fn old(length: usize, n: usize, k: usize, part: usize) {
     old_front(q, &OLD, n, &VALUES, k);
 }
 
-fn change(rows: &mut [[u32; 11]], row: usize, column: usize, n: u32) {
+fn change(rows: &mut [[u32; Item::NUMBERS]], row: usize, column: usize, n: u32) {
     if rows.len() <= row {
         return;
     }

@@ -4,22 +4,23 @@ use crate::lent::FILL;
 use crate::opening;
 use crate::told;
 use runs::call::Made;
+use runs::item::Item;
 
 // The first n rows.
-fn rows(all: &[[u32; 11]], n: usize) {
+fn rows(all: &[[u32; Item::NUMBERS]], n: usize) {
     let mut i: usize = 0;
     while i < n {
         if all.len() <= i {
             return;
         }
-        say::row(all[i]);
+        say::numbers(&all[i]);
         say::words(b"\n");
         i += 1;
     }
 }
 
 // A record; its values if they are few, else their number.
-fn made(all: &[[u32; 11]], n: usize, store: &[u32], k: usize) {
+fn made(all: &[[u32; Item::NUMBERS]], n: usize, store: &[u32], k: usize) {
     told::number(b"rows ", n);
     say::words(b", values");
     if k < 8 {
@@ -32,7 +33,7 @@ fn made(all: &[[u32; 11]], n: usize, store: &[u32], k: usize) {
 }
 
 // The answer for rows and a store that were filled before the call; whether scratch is zero after it.
-pub fn answer(r: Made, all: &[[u32; 11]], store: &[u32], zero: bool) {
+pub fn answer(r: Made, all: &[[u32; Item::NUMBERS]], store: &[u32], zero: bool) {
     match r {
         Made::Record(n, k) => {
             made(all, n, store, k);

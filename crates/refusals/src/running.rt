@@ -5,8 +5,10 @@ use crate::lent::FILL;
 use crate::lexing;
 use crate::rows;
 use crate::told;
+use lexer::flags::Flags;
 use lexer::token_type::TokenType;
 use runs::item;
+use runs::item::Item;
 use text::utf8::Opening;
 use text::utf8::Text;
 
@@ -16,7 +18,7 @@ fn run_front(
     n: usize,
     flags: u32,
     contexts: usize,
-    all: &mut [[u32; 11]],
+    all: &mut [[u32; Item::NUMBERS]],
     items: usize,
     store: &mut [u32],
     values: usize,
@@ -89,7 +91,7 @@ fn hosts() {
 
 // A token call, by value and on a lent lexer, and a run that the text refuses.
 fn both(text: &[u32], n: usize) {
-    let mut all = [[FILL; 11]; 18];
+    let mut all = [[FILL; Item::NUMBERS]; 18];
     let mut store = [FILL; 16];
     let mut free = [FILL; 32];
     let k = n % 32;
@@ -101,7 +103,7 @@ fn both(text: &[u32], n: usize) {
     run_front(
         text,
         n,
-        31,
+        Flags::ALL,
         1,
         &mut all,
         k + 2,

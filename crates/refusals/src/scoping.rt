@@ -3,7 +3,9 @@ use crate::filled;
 use crate::lent;
 use crate::told;
 use scope::scope::Changed;
+use scope::scope::Listed;
 use scope::scope::Scope;
+use scope::scope::Slot;
 
 // Which call is tried.
 const PUSH: u32 = 0;
@@ -27,10 +29,10 @@ fn call_name(call: u32) {
 fn made(
     call: u32,
     s: Scope,
-    slots: &mut [[u32; 4]],
+    slots: &mut [[u32; Slot::NUMBERS]],
     names: &mut [[u32; Scope::MAX_NAME]],
     name: &[u32],
-    rows: &[[u32; 4]],
+    rows: &[[u32; Listed::NUMBERS]],
     cells: &[u32],
 ) -> Changed {
     match call {
@@ -42,7 +44,7 @@ fn made(
 }
 
 // Variables with names of one character each, no two alike; the first has this depth.
-fn write_list(rows: &mut [[u32; 4]], depth: u32) {
+fn write_list(rows: &mut [[u32; Listed::NUMBERS]], depth: u32) {
     let mut i: usize = 0;
     let mut k: u32 = 0;
     let mut d = depth;
@@ -71,7 +73,7 @@ fn after(r: Changed, s: Scope) -> Scope {
 
 // A scope that holds so many parsed names.
 fn hold_parsed(
-    slots: &mut [[u32; 4]],
+    slots: &mut [[u32; Slot::NUMBERS]],
     names: &mut [[u32; Scope::MAX_NAME]],
     cells: &[u32],
     count: usize,
@@ -94,9 +96,9 @@ fn hold_parsed(
 
 // A scope that holds so many entries.
 fn hold_entries(
-    slots: &mut [[u32; 4]],
+    slots: &mut [[u32; Slot::NUMBERS]],
     names: &mut [[u32; Scope::MAX_NAME]],
-    rows: &[[u32; 4]],
+    rows: &[[u32; Listed::NUMBERS]],
     cells: &[u32],
     count: usize,
 ) -> Scope {
@@ -114,9 +116,9 @@ fn hold_entries(
 fn hold(
     call: u32,
     contexts: usize,
-    slots: &mut [[u32; 4]],
+    slots: &mut [[u32; Slot::NUMBERS]],
     names: &mut [[u32; Scope::MAX_NAME]],
-    rows: &[[u32; 4]],
+    rows: &[[u32; Listed::NUMBERS]],
     cells: &[u32],
     count: usize,
 ) -> Scope {
@@ -143,19 +145,22 @@ fn answer(r: Changed) {
     }
 }
 
+// One character more than a name may have.
+const LONG_NAME: usize = Scope::MAX_NAME + 1;
+
 // The call with a name of so many times `a` and the first entries of a list.
 fn call_front(
     call: u32,
     s: Scope,
-    slots: &mut [[u32; 4]],
+    slots: &mut [[u32; Slot::NUMBERS]],
     names: &mut [[u32; Scope::MAX_NAME]],
     length: usize,
-    rows: &[[u32; 4]],
+    rows: &[[u32; Listed::NUMBERS]],
     entries: usize,
     cells: &[u32],
 ) {
-    let name = [0x61u32; 129];
-    if 129 < length {
+    let name = [0x61u32; LONG_NAME];
+    if LONG_NAME < length {
         return;
     }
     if rows.len() < entries {
@@ -173,8 +178,8 @@ fn call_front(
 }
 
 fn kept(
-    slots: &[[u32; 4]],
-    slots_before: &[[u32; 4]],
+    slots: &[[u32; Slot::NUMBERS]],
+    slots_before: &[[u32; Slot::NUMBERS]],
     names: &[[u32; Scope::MAX_NAME]],
     names_before: &[[u32; Scope::MAX_NAME]],
 ) {
@@ -189,8 +194,8 @@ fn trial(call: u32, contexts: usize, count: usize, entries: usize, depth: u32, l
     told::numbers(&[contexts, count, entries, depth as usize, length]);
     let mut slots = lent::slots();
     let mut names = lent::names();
-    let mut rows = [[0u32; 4]; 513];
-    let mut cells = [0u32; 513];
+    let mut rows = [[0u32; Listed::NUMBERS]; Scope::MAX_ENTRIES + 1];
+    let mut cells = [0u32; Scope::MAX_ENTRIES + 1];
     write_cells(&mut cells);
     write_list(&mut rows, 0);
     let s = hold(call, contexts, &mut slots, &mut names, &rows, &cells, count);

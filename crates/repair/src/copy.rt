@@ -20,9 +20,9 @@ pub struct Place {
 
 // Writes a row to the place `at`, with another position, reach and value start.
 pub fn put_moved(
-    rows: &mut [[u32; 11]],
+    rows: &mut [[u32; Item::NUMBERS]],
     at: usize,
-    row: [u32; 11],
+    row: [u32; Item::NUMBERS],
     position: usize,
     reach: usize,
     start: usize,
@@ -39,11 +39,11 @@ pub fn put_moved(
 
 // Writes an old item again, moved: its row behind the last one, its value behind the last value.
 fn copy_item(
-    row: [u32; 11],
+    row: [u32; Item::NUMBERS],
     old_store: &[u32],
     e: Edit,
     at: Place,
-    rows: &mut [[u32; 11]],
+    rows: &mut [[u32; Item::NUMBERS]],
     store: &mut [u32],
 ) -> Place
     requires { ⌜ Movable (editOf e) (length (now «old_store»)) row × (e .from + e .size ≤ maxChars) × (at .items < length (now rows)) × (at .cells ≤ maxChars)
@@ -65,13 +65,13 @@ fn copy_item(
 // Writes the old items from the row `first` up to `end` again, moved, behind those that are written.
 // Ruled out, among others: value starts as they were in the old store; a reach that stays where its position moves.
 pub fn copy_items(
-    old_rows: &[[u32; 11]],
+    old_rows: &[[u32; Item::NUMBERS]],
     old_store: &[u32],
     first: usize,
     end: usize,
     e: Edit,
     place: Place,
-    rows: &mut [[u32; 11]],
+    rows: &mut [[u32; Item::NUMBERS]],
     store: &mut [u32],
 ) -> Place
     requires { ⌜ Copyable (editOf e) (now «old_rows») (now «old_store») first end × (e .from + e .size ≤ maxChars)

@@ -5,7 +5,7 @@ use runs::item::Item;
 
 // How many rows stand before the first whose reach is over `from`.
 // Ruled out, among others: a row behind that one counted, too; a row that reaches exactly to `from` left out.
-pub fn count_kept(rows: &[[u32; 11]], from: usize) -> usize
+pub fn count_kept(rows: &[[u32; Item::NUMBERS]], from: usize) -> usize
     ensures { λ r. ⌜ KeptRows from (now (rows .entry)) r ⌝ }
 {
     let mut i: usize = 0;
@@ -19,7 +19,7 @@ pub fn count_kept(rows: &[[u32; 11]], from: usize) -> usize
 }
 
 // The position of the last kept row, where the new text part begins.
-pub fn part_start(rows: &[[u32; 11]], from: usize) -> usize
+pub fn part_start(rows: &[[u32; Item::NUMBERS]], from: usize) -> usize
     ensures { λ r. ⌜ PartStart from (now (rows .entry)) r ⌝ }
 {
     let k = count_kept(rows, from);

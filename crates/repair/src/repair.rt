@@ -33,6 +33,7 @@ use runs::item::Item;
 use runs::run;
 use runs::run::Progress;
 use scope::scope::Scope;
+use scope::scope::Slot;
 use text::refusal::Refusal;
 
 // Fresh items are written up to here, and the old rows from `old` on follow.
@@ -54,7 +55,7 @@ fn is_before(e: Edit, q: usize, p: usize) -> bool
 }
 
 // The first old row from `first` on that is moved to p or behind it; the last row at the latest.
-fn pass_old(old_rows: &[[u32; 11]], first: usize, e: Edit, p: usize) -> usize
+fn pass_old(old_rows: &[[u32; Item::NUMBERS]], first: usize, e: Edit, p: usize) -> usize
     requires { ⌜ Passed (editOf e) (now «old_rows») first p × (e .from + e .size ≤ maxChars) ⌝ }
     ensures { λ r. ⌜ Passed (editOf e) (now («old_rows» .entry)) r p × Ahead (editOf e) (now («old_rows» .entry)) r p ⌝ }
 {
@@ -70,7 +71,7 @@ fn pass_old(old_rows: &[[u32; 11]], first: usize, e: Edit, p: usize) -> usize
 }
 
 // Whether the old row at j, which is not the last, matches the state of position p and these flags.
-fn is_match(old_rows: &[[u32; 11]], j: usize, e: Edit, p: usize, flags: Flags) -> bool
+fn is_match(old_rows: &[[u32; Item::NUMBERS]], j: usize, e: Edit, p: usize, flags: Flags) -> bool
     requires { ⌜ Passed (editOf e) (now «old_rows») j p × Ahead (editOf e) (now «old_rows») j p × Accepted (now «old_rows») × (e .from + e .size ≤ maxChars) ⌝ }
     ensures { λ r. ⌜ Looked (editOf e) (now («old_rows» .entry)) j p (flagsOf flags) r ⌝ }
 {
@@ -90,10 +91,10 @@ fn read_fresh(
     base: usize,
     at: Progress,
     s: Scope,
-    slots: &[[u32; 4]],
+    slots: &[[u32; Slot::NUMBERS]],
     names: &[[u32; Scope::MAX_NAME]],
     cap: usize,
-    rows: &mut [[u32; 11]],
+    rows: &mut [[u32; Item::NUMBERS]],
     store: &mut [u32],
     scratch: &mut [u32],
 ) -> Progress
@@ -119,11 +120,11 @@ fn read_to_match(
     flags: Flags,
     kept: Place,
     e: Edit,
-    old_rows: &[[u32; 11]],
+    old_rows: &[[u32; Item::NUMBERS]],
     s: Scope,
-    slots: &[[u32; 4]],
+    slots: &[[u32; Slot::NUMBERS]],
     names: &[[u32; Scope::MAX_NAME]],
-    rows: &mut [[u32; 11]],
+    rows: &mut [[u32; Item::NUMBERS]],
     store: &mut [u32],
     scratch: &mut [u32],
 ) -> Matched
@@ -163,10 +164,10 @@ fn read_to_match(
 
 // Writes the first k old items again as they were.
 fn put_kept(
-    old_rows: &[[u32; 11]],
+    old_rows: &[[u32; Item::NUMBERS]],
     old_store: &[u32],
     k: usize,
-    rows: &mut [[u32; 11]],
+    rows: &mut [[u32; Item::NUMBERS]],
     store: &mut [u32],
 ) -> Place
     requires { ⌜ Copyable (putAt 0) (now «old_rows») (now «old_store») 0 k × (k ≤ length (now rows))
@@ -184,16 +185,16 @@ fn put_kept(
 
 // Writes what follows the kept items, of which there are k: fresh items, and behind a match the old rest, moved.
 fn put_rest(
-    old_rows: &[[u32; 11]],
+    old_rows: &[[u32; Item::NUMBERS]],
     old_store: &[u32],
     e: Edit,
     k: usize,
     kept: Place,
     part: &[u32],
     s: Scope,
-    slots: &[[u32; 4]],
+    slots: &[[u32; Slot::NUMBERS]],
     names: &[[u32; Scope::MAX_NAME]],
-    rows: &mut [[u32; 11]],
+    rows: &mut [[u32; Item::NUMBERS]],
     store: &mut [u32],
     scratch: &mut [u32],
 ) -> Place
@@ -240,14 +241,14 @@ fn put_rest(
 
 // Writes the repaired items of an accepted request.
 fn put_items(
-    old_rows: &[[u32; 11]],
+    old_rows: &[[u32; Item::NUMBERS]],
     old_store: &[u32],
     e: Edit,
     part: &[u32],
     s: Scope,
-    slots: &[[u32; 4]],
+    slots: &[[u32; Slot::NUMBERS]],
     names: &[[u32; Scope::MAX_NAME]],
-    rows: &mut [[u32; 11]],
+    rows: &mut [[u32; Item::NUMBERS]],
     store: &mut [u32],
     scratch: &mut [u32],
 ) -> Place
@@ -283,16 +284,16 @@ fn put_items(
 // Ruled out, among others: old items behind a match with the reaches they had; a refused repair that has written to rows or store.
 pub fn repair(
     old_length: usize,
-    old_rows: &[[u32; 11]],
+    old_rows: &[[u32; Item::NUMBERS]],
     old_store: &[u32],
     from: usize,
     to: usize,
     size: usize,
     part: &[u32],
     s: Scope,
-    slots: &[[u32; 4]],
+    slots: &[[u32; Slot::NUMBERS]],
     names: &[[u32; Scope::MAX_NAME]],
-    rows: &mut [[u32; 11]],
+    rows: &mut [[u32; Item::NUMBERS]],
     store: &mut [u32],
     scratch: &mut [u32],
 ) -> Made

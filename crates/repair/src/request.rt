@@ -16,7 +16,7 @@ use runs::item::Item;
 use text::utf8::Text;
 
 // Whether a number's three lengths are its value's.
-fn adds_up(row: &[u32; 11]) -> bool
+fn adds_up(row: &[u32; Item::NUMBERS]) -> bool
     ensures { λ r. ⌜ r ≡ spec.addsUp (now (row .entry)) ⌝ }
 {
     let before = cell::wide(row[Item::BEFORE]);
@@ -25,20 +25,20 @@ fn adds_up(row: &[u32; 11]) -> bool
     before + after + exponent == cell::wide(row[Item::LENGTH])
 }
 
-fn is_number(row: &[u32; 11]) -> bool
+fn is_number(row: &[u32; Item::NUMBERS]) -> bool
     ensures { λ r. ⌜ r ≡ spec.isNumber (now (row .entry)) ⌝ }
 {
     (row[Item::REFUSED] != 1) & (TokenType::NUMERIC == row[Item::NUMBER])
 }
 
-fn is_row(row: &[u32; 11]) -> bool
+fn is_row(row: &[u32; Item::NUMBERS]) -> bool
     ensures { λ r. ⌜ r ≡ spec.isRow (now (row .entry)) ⌝ }
 {
     (row[Item::REFUSED] <= 1) & (row[Item::FLAGS] <= Flags::ALL) & (!is_number(row) | adds_up(row))
 }
 
 // Whether a run ends with this row.
-fn ends_run(row: &[u32; 11]) -> bool
+fn ends_run(row: &[u32; Item::NUMBERS]) -> bool
     ensures { λ r. ⌜ r ≡ isLast (eqb (getD (now (row .entry)) refusedAt 0) 1) (getD (now (row .entry)) numberAt 0) ⌝ }
 {
     if row[Item::REFUSED] == 1 {
@@ -55,7 +55,7 @@ fn ends_run(row: &[u32; 11]) -> bool
 }
 
 // Whether the row fits behind position p, over n characters; the last value ended at `at` of a store of m cells.
-fn row_fits(n: usize, m: usize, at: usize, p: usize, row: &[u32; 11]) -> bool
+fn row_fits(n: usize, m: usize, at: usize, p: usize, row: &[u32; Item::NUMBERS]) -> bool
     requires { ⌜ (n ≤ maxChars) × (at ≤ m) × (p ≤ n) ⌝ }
     ensures { λ r. ⌜ r ≡ spec.rowFits n m at p (now (row .entry)) ⌝ }
 {
@@ -72,7 +72,7 @@ fn row_fits(n: usize, m: usize, at: usize, p: usize, row: &[u32; 11]) -> bool
 }
 
 // Whether the rows behind the first fit.
-fn rows_fit(n: usize, m: usize, rows: &[[u32; 11]]) -> bool
+fn rows_fit(n: usize, m: usize, rows: &[[u32; Item::NUMBERS]]) -> bool
     requires { ⌜ n ≤ maxChars ⌝ }
     ensures { λ r. ⌜ r ≡ spec.rowsFit n m 0 0 (drop 1 (now (rows .entry))) ⌝ }
 {
@@ -97,7 +97,7 @@ fn rows_fit(n: usize, m: usize, rows: &[[u32; 11]]) -> bool
     false
 }
 
-fn first_fits(n: usize, m: usize, rows: &[[u32; 11]]) -> bool
+fn first_fits(n: usize, m: usize, rows: &[[u32; Item::NUMBERS]]) -> bool
     requires { ⌜ n ≤ maxChars ⌝ }
     ensures { λ r. ⌜ r ≡ spec.firstFits n m (now (rows .entry)) ⌝ }
 {
@@ -119,7 +119,7 @@ fn first_fits(n: usize, m: usize, rows: &[[u32; 11]]) -> bool
     rows_fit(n, m, rows)
 }
 
-fn record_fits(n: usize, rows: &[[u32; 11]], store: &[u32]) -> bool
+fn record_fits(n: usize, rows: &[[u32; Item::NUMBERS]], store: &[u32]) -> bool
     requires { ⌜ n ≤ maxChars ⌝ }
     ensures { λ r. ⌜ r ≡ spec.recordFits n (record { rows = now (rows .entry); store = now (store .entry) }) ⌝ }
 {
@@ -145,7 +145,7 @@ fn ends_with(start: usize, length: usize, rest: usize, size: usize) -> bool
 // Ruled out, among others: a reach over the old length + 12 accepted; a row behind the last item accepted.
 pub fn is_broken_request(
     old_length: usize,
-    rows: &[[u32; 11]],
+    rows: &[[u32; Item::NUMBERS]],
     store: &[u32],
     from: usize,
     to: usize,

@@ -9,7 +9,9 @@ ghost use Rattle.scope.specs.Answers.{lent, Kept, Whole};
 ghost use Rattle.replay.specs.After.{afterCall};
 use crate::fields;
 use scope::scope::Changed;
+use scope::scope::Listed;
 use scope::scope::Scope;
+use scope::scope::Slot;
 
 // An entry list was read: how many rows it has, and where the next field begins.
 struct List {
@@ -33,7 +35,7 @@ fn read_list(
     line: &[u8],
     from: usize,
     entries: u32,
-    rows: &mut [[u32; 4]],
+    rows: &mut [[u32; Listed::NUMBERS]],
     cells: &mut [u32],
 ) -> List
     ensures { λ r. ⌜ r .count ≤ length (now (rows .exit)) ⌝ }
@@ -62,10 +64,10 @@ fn read_list(
 fn made(
     call: u32,
     s: Scope,
-    slots: &mut [[u32; 4]],
+    slots: &mut [[u32; Slot::NUMBERS]],
     names: &mut [[u32; Scope::MAX_NAME]],
     name: &[u32],
-    rows: &[[u32; 4]],
+    rows: &[[u32; Listed::NUMBERS]],
     cells: &[u32],
 ) -> Changed
     ensures { λ r. ⌜ Kept r (now (slots .entry)) (now (slots .exit)) × Kept r (now (names .entry)) (now (names .exit)) × Whole r (now (slots .exit)) (now (names .exit)) ⌝ }
@@ -94,13 +96,13 @@ fn call(
     line: &[u8],
     from: usize,
     s: Scope,
-    slots: &mut [[u32; 4]],
+    slots: &mut [[u32; Slot::NUMBERS]],
     names: &mut [[u32; Scope::MAX_NAME]],
 ) -> Called
     ensures { λ r. ⌜ (isBroken (lent s (now (slots .entry)) (now (names .entry))) ≡ false → isBroken (lent (r .scope) (now (slots .exit)) (now (names .exit))) ≡ false) ⌝ }
 {
     let mut name = [0u32; Scope::MAX_NAME];
-    let mut rows = [[0u32; 4]; 64];
+    let mut rows = [[0u32; Listed::NUMBERS]; 64];
     let mut cells = [0u32; 1024];
     let number = fields::read_decimal(line, from);
     let n = fields::read_cells(line, number.next, &mut name, 0);
@@ -127,7 +129,7 @@ fn call(
 pub fn scope_of(
     line: &[u8],
     from: usize,
-    slots: &mut [[u32; 4]],
+    slots: &mut [[u32; Slot::NUMBERS]],
     names: &mut [[u32; Scope::MAX_NAME]],
 ) -> Scope
     ensures { λ r. ⌜ (maxEntries + maxParsed ≤ length (now (slots .entry)) → maxEntries + maxParsed ≤ length (now (names .entry))

@@ -9,7 +9,9 @@ mod record; // record.rt: a record printed
 
 use runs::call::Made;
 use runs::item;
+use runs::item::Item;
 use scope::scope::Scope;
+use scope::scope::Slot;
 use text::utf8::Text;
 
 // The record of a text, behind its case.
@@ -18,12 +20,12 @@ fn print_run(
     start_type: u32,
     flags: u32,
     s: Scope,
-    slots: &[[u32; 4]],
+    slots: &[[u32; Slot::NUMBERS]],
     names: &[[u32; Scope::MAX_NAME]],
 ) {
-    let mut rows = [[0u32; 11]; 16386];
+    let mut rows = [[0u32; Item::NUMBERS]; Text::MAX_CHARS + 2];
     let mut store = [0u32; Text::MAX_CHARS];
-    let mut scratch = [0u32; 32768];
+    let mut scratch = [0u32; 2 * Text::MAX_CHARS];
     let made = runs::run::run(
         text,
         start_type,
@@ -44,8 +46,8 @@ fn print_run(
 // A case and its record; the case is a line without its end.
 fn print_case(line: &[u8]) {
     let mut text = [0u32; Text::MAX_CHARS];
-    let mut slots = [[0u32; 4]; 768];
-    let mut names = [[0u32; Scope::MAX_NAME]; 768];
+    let mut slots = [[0u32; Slot::NUMBERS]; Scope::ROWS];
+    let mut names = [[0u32; Scope::MAX_NAME]; Scope::ROWS];
     let name = fields::next_field(line, 0);
     let start_type = fields::read_decimal(line, name);
     let flags = fields::read_decimal(line, start_type.next);

@@ -9,7 +9,7 @@ fn wide(n: u32) -> usize {
 }
 
 // 1 where the Rust panicked in the last item, which 01 refuses with 7 or 8.
-fn panicked(last: [u32; 11]) -> usize {
+fn panicked(last: [u32; Item::NUMBERS]) -> usize {
     if last[Item::REFUSED] == 0 {
         return 0;
     }
@@ -19,10 +19,10 @@ fn panicked(last: [u32; 11]) -> usize {
     }
 }
 
-fn rows(all: &[[u32; 11]]) {
+fn rows(all: &[[u32; Item::NUMBERS]]) {
     let mut i: usize = 0;
     while i < all.len() {
-        say::row(all[i]);
+        say::numbers(&all[i]);
         i += 1;
     }
 }
@@ -74,7 +74,7 @@ fn store(cells: &[u32]) {
     say::words(b"\n");
 }
 
-fn whole(all: &[[u32; 11]], cells: &[u32]) {
+fn whole(all: &[[u32; Item::NUMBERS]], cells: &[u32]) {
     let n = all.len();
     if n == 0 {
         return;
@@ -88,7 +88,7 @@ fn whole(all: &[[u32; 11]], cells: &[u32]) {
 }
 
 // The record of so many rows and store cells.
-pub fn print(all: &[[u32; 11]], count: usize, cells: &[u32], n: usize) {
+pub fn print(all: &[[u32; Item::NUMBERS]], count: usize, cells: &[u32], n: usize) {
     if all.len() < count {
         return;
     }

@@ -5,6 +5,7 @@ ghost use Rattle.reading.specs.Slices.{zeros};
 ghost use Rattle.scope.specs.Answers.{lent};
 ghost use Rattle.runs.specs.Ran as ran;
 use scope::scope::Scope;
+use scope::scope::Slot;
 use text::refusal::Refusal;
 use text::utf8::Text;
 
@@ -27,7 +28,7 @@ pub fn clear(scratch: &mut [u32])
 pub fn refusal(
     n: usize,
     s: Scope,
-    slots: &[[u32; 4]],
+    slots: &[[u32; Slot::NUMBERS]],
     names: &[[u32; Scope::MAX_NAME]],
     rows: usize,
     store: usize,

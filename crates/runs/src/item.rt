@@ -51,6 +51,9 @@ impl Item {
 
     pub const EXTRA: usize = 10;
 
+    // How many numbers a row has.
+    pub const NUMBERS: usize = 11;
+
     // The item of a reading, with the position, flags and reach behind it.
     pub fn new(read: Read, position: usize, flags: Flags, reach: usize) -> Item
         requires { ⌜ cellCount read ≤ maxChars ⌝ }
@@ -190,11 +193,11 @@ pub fn bit_flags(n: u32) -> Flags
 }
 
 // The row of an item whose value starts at `start`.
-fn row_of(item: Item, start: usize) -> [u32; 11]
+fn row_of(item: Item, start: usize) -> [u32; Item::NUMBERS]
     requires { ⌜ Small item × (start ≤ maxChars) ⌝ }
     ensures { λ r. ⌜ r ≡ rowFrom start item ⌝ }
 {
-    let mut row: [u32; 11] = [0; 11];
+    let mut row: [u32; Item::NUMBERS] = [0; Item::NUMBERS];
     row[Item::REFUSED] = bit(item.is_refusal);
     row[Item::NUMBER] = item.number;
     row[Item::POSITION] = item.position as u32;
@@ -211,7 +214,7 @@ fn row_of(item: Item, start: usize) -> [u32; 11]
 
 // Writes the row of an item, whose value starts at `start`, to the place `at`.
 // Ruled out, among others: a number cut off at 32 bits; a row that keeps what an earlier run wrote where this item has nothing.
-pub fn put_row(rows: &mut [[u32; 11]], at: usize, item: Item, start: usize)
+pub fn put_row(rows: &mut [[u32; Item::NUMBERS]], at: usize, item: Item, start: usize)
     requires { ⌜ (at < length (now rows)) × Small item × (start ≤ maxChars) ⌝ }
     ensures { λ _. ⌜ now (rows .exit) ≡ set (now (rows .entry)) at (rowFrom start item) ⌝ }
 {

@@ -21,6 +21,7 @@ use crate::item::Item;
 use lexer::flags::Flags;
 use lexer::token::Read;
 use scope::scope::Scope;
+use scope::scope::Slot;
 use text::refusal::Refusal;
 
 // Where a run stands: behind the last item, with so many items and value cells, and whether that item ended it.
@@ -33,7 +34,7 @@ pub struct Progress {
 }
 
 // Writes the start item.
-fn put_start(start_type: u32, flags: Flags, rows: &mut [[u32; 11]]) -> Progress
+fn put_start(start_type: u32, flags: Flags, rows: &mut [[u32; Item::NUMBERS]]) -> Progress
     requires { ⌜ 0 < length (now rows) ⌝ }
     ensures { λ r. ⌜ ((tok : Reader) (t store : List ℕ) → Stands tok «start_type» (flagsOf flags) t (now (rows .entry)) store r (now (rows .exit)) store) ⌝ }
 {
@@ -56,10 +57,10 @@ pub fn read_item(
     text: &[u32],
     at: Progress,
     s: Scope,
-    slots: &[[u32; 4]],
+    slots: &[[u32; Slot::NUMBERS]],
     names: &[[u32; Scope::MAX_NAME]],
     cap: usize,
-    rows: &mut [[u32; 11]],
+    rows: &mut [[u32; Item::NUMBERS]],
     store: &mut [u32],
     scratch: &mut [u32],
 ) -> Progress
@@ -102,9 +103,9 @@ fn read_items(
     start_type: u32,
     flags: Flags,
     s: Scope,
-    slots: &[[u32; 4]],
+    slots: &[[u32; Slot::NUMBERS]],
     names: &[[u32; Scope::MAX_NAME]],
-    rows: &mut [[u32; 11]],
+    rows: &mut [[u32; Item::NUMBERS]],
     store: &mut [u32],
     scratch: &mut [u32],
 ) -> Progress
@@ -128,9 +129,9 @@ pub fn run(
     start_type: u32,
     flags: Flags,
     s: Scope,
-    slots: &[[u32; 4]],
+    slots: &[[u32; Slot::NUMBERS]],
     names: &[[u32; Scope::MAX_NAME]],
-    rows: &mut [[u32; 11]],
+    rows: &mut [[u32; Item::NUMBERS]],
     store: &mut [u32],
     scratch: &mut [u32],
 ) -> Made

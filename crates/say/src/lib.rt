@@ -44,12 +44,12 @@ fn wide(n: u32) -> usize {
     n as usize
 }
 
-// A row of a record: eleven numbers, each behind a space.
-pub fn row(r: [u32; 11]) {
+// Numbers, as those of a row, each behind a space.
+pub fn numbers(all: &[u32]) {
     let mut i: usize = 0;
-    while i < 11 {
+    while i < all.len() {
         words(b" ");
-        decimal(wide(r[i]));
+        decimal(wide(all[i]));
         i += 1;
     }
 }

@@ -16,6 +16,7 @@ use crate::broken;
 use crate::compare;
 use crate::scope::Kind;
 use crate::scope::Scope;
+use crate::scope::Slot;
 use text::chars::Char;
 
 const DOT: [u32; 3] = [Char::SPACE, Char::DOT, Char::SPACE];
@@ -39,7 +40,7 @@ fn past_name(row: &[u32], n: usize, text: &[u32]) -> usize
 
 // The same for the name of the entry at i.
 fn past_entry(
-    slots: &[[u32; 4]],
+    slots: &[[u32; Slot::NUMBERS]],
     names: &[[u32; Scope::MAX_NAME]],
     count: usize,
     i: usize,
@@ -48,12 +49,12 @@ fn past_entry(
     requires { ⌜ (i < count) × (count ≤ length (now slots)) × (count ≤ length (now names)) × (anyTooLong count (now slots) ≡ false) ⌝ }
     ensures { λ r. ⌜ (r ≡ past (entryAt (now (slots .entry)) (now (names .entry)) i .name ++ codes " . ") (now (text .entry))) × (r ≤ length (now (text .entry))) ⌝ }
 {
-    past_name(&names[i], compare::wide(slots[i][3]), text)
+    past_name(&names[i], compare::wide(slots[i][Slot::LENGTH]), text)
 }
 
 // Whether the text is the name of the entry at i.
 fn is_entry_name(
-    slots: &[[u32; 4]],
+    slots: &[[u32; Slot::NUMBERS]],
     names: &[[u32; Scope::MAX_NAME]],
     count: usize,
     i: usize,
@@ -62,12 +63,17 @@ fn is_entry_name(
     requires { ⌜ (i < count) × (count ≤ length (now slots)) × (count ≤ length (now names)) × (anyTooLong count (now slots) ≡ false) ⌝ }
     ensures { λ r. ⌜ r ≡ same (entryAt (now (slots .entry)) (now (names .entry)) i .name) (now (text .entry)) ⌝ }
 {
-    compare::same_cells(&names[i], compare::wide(slots[i][3]), text, text.len())
+    compare::same_cells(
+        &names[i],
+        compare::wide(slots[i][Slot::LENGTH]),
+        text,
+        text.len(),
+    )
 }
 
 // Whether the text is a key of the entries from `from` on at depth d, where so many levels are left, that of depth d among them.
 fn has(
-    slots: &[[u32; 4]],
+    slots: &[[u32; Slot::NUMBERS]],
     names: &[[u32; Scope::MAX_NAME]],
     count: usize,
     from: usize,
@@ -83,7 +89,7 @@ fn has(
     }
     let mut i = from;
     while i < count {
-        let depth = slots[i][1];
+        let depth = slots[i][Slot::DEPTH];
         if depth < d {
             return false;
         }
@@ -99,7 +105,7 @@ fn has(
 
 // The same of the entry at i and those below it.
 fn entry_has(
-    slots: &[[u32; 4]],
+    slots: &[[u32; Slot::NUMBERS]],
     names: &[[u32; Scope::MAX_NAME]],
     count: usize,
     i: usize,
@@ -113,7 +119,7 @@ fn entry_has(
     if is_entry_name(slots, names, count, i, text) {
         return true;
     }
-    if slots[i][2] != Kind::CONTEXT {
+    if slots[i][Slot::KIND] != Kind::CONTEXT {
         return false;
     }
     if has(slots, names, count, i + 1, d + 1, levels - 1, text) {
@@ -128,7 +134,12 @@ fn entry_has(
 
 // Whether the text is a parsed name or a flattened key of a scope that is not broken.
 // Ruled out, among others: a nested key without its " . "; a key that skips no level.
-pub fn is_name(s: Scope, slots: &[[u32; 4]], names: &[[u32; Scope::MAX_NAME]], text: &[u32]) -> bool
+pub fn is_name(
+    s: Scope,
+    slots: &[[u32; Slot::NUMBERS]],
+    names: &[[u32; Scope::MAX_NAME]],
+    text: &[u32],
+) -> bool
     requires { ⌜ isBroken (lent s (now slots) (now names)) ≡ false ⌝ }
     ensures { λ r. ⌜ r ≡ spec.isName (scopeOf (lent s (now (slots .entry)) (now (names .entry)))) (now (text .entry)) ⌝ }
 {

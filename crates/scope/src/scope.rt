@@ -36,6 +36,9 @@ impl Scope {
     // Characters of the longest possible key: eight names, and " . " seven times.
     pub const LONGEST_KEY: usize = 1_045;
 
+    // Rows of slots and of names that are lent beside the counts: those of the entries, then those of the parsed names.
+    pub const ROWS: usize = Scope::MAX_ENTRIES + Scope::MAX_PARSED;
+
     // One empty context.
     pub fn opened() -> Scope
         ensures { λ r. ⌜ ((ss ns : List (List ℕ)) → scopeOf (lent r ss ns) ≡ opened)
@@ -58,15 +61,47 @@ impl Kind {
     pub const CONTEXT: u32 = 1;
 }
 
+// The places in a row of slots. A parsed name uses the last alone.
+pub struct Slot {}
+
+impl Slot {
+    pub const CONTEXT: usize = 0;
+
+    pub const DEPTH: usize = 1;
+
+    pub const KIND: usize = 2;
+
+    // Characters of the name.
+    pub const LENGTH: usize = 3;
+
+    pub const NUMBERS: usize = 4;
+}
+
+// The places in a row of an entry list; the name is a span of the cells lent beside it.
+pub struct Listed {}
+
+impl Listed {
+    pub const DEPTH: usize = 0;
+
+    pub const KIND: usize = 1;
+
+    pub const START: usize = 2;
+
+    pub const LENGTH: usize = 3;
+
+    pub const NUMBERS: usize = 4;
+}
+
 // Every limit and kind, and what follows from them.
 // Ruled out, among others: a constant that is another number than 01's.
-pub fn numbers() -> [usize; 9]
-    ensures { λ r. ⌜ r ≡ (maxContexts ∷ maxEntries ∷ maxParsed ∷ maxName ∷ maxDepth ∷ suc maxDepth ∷ longestKey ∷ variable ∷ contextKind ∷ []) ⌝ }
+pub fn numbers() -> [usize; 10]
+    ensures { λ r. ⌜ r ≡ (maxContexts ∷ maxEntries ∷ maxParsed ∷ (maxEntries + maxParsed) ∷ maxName ∷ maxDepth ∷ suc maxDepth ∷ longestKey ∷ variable ∷ contextKind ∷ []) ⌝ }
 {
     [
         Scope::MAX_CONTEXTS,
         Scope::MAX_ENTRIES,
         Scope::MAX_PARSED,
+        Scope::ROWS,
         Scope::MAX_NAME,
         Scope::MAX_DEPTH as usize,
         Scope::LEVELS,

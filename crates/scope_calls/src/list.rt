@@ -17,22 +17,23 @@ ghost use Rattle.scope_calls.specs.Firsts as firsts;
 use scope::broken;
 use scope::compare;
 use scope::scope::Kind;
+use scope::scope::Listed;
 use scope::scope::Scope;
 
 // A cut below every depth: nothing goes.
 pub const NO_CUT: u32 = Scope::MAX_DEPTH + 1;
 
 // Whether a name span lies outside the cells.
-pub fn any_outside(list: &[[u32; 4]], cells: &[u32]) -> bool
+pub fn any_outside(list: &[[u32; Listed::NUMBERS]], cells: &[u32]) -> bool
     ensures { λ r. ⌜ r ≡ anyOutside (now (cells .entry)) (now (list .entry)) ⌝ }
 {
     let mut i: usize = 0;
     while i < list.len() {
-        let start = compare::wide(list[i][2]);
+        let start = compare::wide(list[i][Listed::START]);
         if cells.len() < start {
             return true;
         }
-        if cells.len() - start < compare::wide(list[i][3]) {
+        if cells.len() - start < compare::wide(list[i][Listed::LENGTH]) {
             return true;
         }
         i += 1;
@@ -41,12 +42,12 @@ pub fn any_outside(list: &[[u32; 4]], cells: &[u32]) -> bool
 }
 
 // Whether the entry at i stands below another entry's depth without having a parent. Since all before it have theirs, the row before decides.
-fn is_orphan(list: &[[u32; 4]], cells: &[u32], i: usize) -> bool
+fn is_orphan(list: &[[u32; Listed::NUMBERS]], cells: &[u32], i: usize) -> bool
     requires { ⌜ (i < length (now list)) × ((k : ℕ) → Parented (earlier i (listed k (now cells) (now list)) [])) ⌝ }
     ensures { λ r. ⌜ ((k : ℕ) → r ≡ (ltb 0 (spanned k (now (cells .entry)) (getD (now (list .entry)) i []) .depth)
         && not (spec.hasParent (spanned k (now (cells .entry)) (getD (now (list .entry)) i [])) (earlier i (listed k (now (cells .entry)) (now (list .entry))) [])))) ⌝ }
 {
-    let depth = list[i][0];
+    let depth = list[i][Listed::DEPTH];
     if depth == 0 {
         return false;
     }
@@ -54,13 +55,13 @@ fn is_orphan(list: &[[u32; 4]], cells: &[u32], i: usize) -> bool
         return true;
     }
     let row = list[i - 1];
-    if depth <= row[0] {
+    if depth <= row[Listed::DEPTH] {
         return false;
     }
-    if row[0] < depth - 1 {
+    if row[Listed::DEPTH] < depth - 1 {
         return true;
     }
-    row[1] != Kind::CONTEXT
+    row[Listed::KIND] != Kind::CONTEXT
 }
 
 // Whether the span is no name.
@@ -72,23 +73,27 @@ fn is_broken_span(cells: &[u32], start: usize, n: usize) -> bool
 }
 
 // Whether the entry at i is broken, where depths up to `most` are in range.
-fn is_broken_row(list: &[[u32; 4]], cells: &[u32], i: usize, most: u32) -> bool
+fn is_broken_row(list: &[[u32; Listed::NUMBERS]], cells: &[u32], i: usize, most: u32) -> bool
     requires { ⌜ (i < length (now list)) × (anyOutside (now cells) (now list) ≡ false) × ((k : ℕ) → Parented (earlier i (listed k (now cells) (now list)) [])) ⌝ }
     ensures { λ r. ⌜ ((k : ℕ) → r ≡ listing.isBrokenTo most (spanned k (now (cells .entry)) (getD (now (list .entry)) i [])) (earlier i (listed k (now (cells .entry)) (now (list .entry))) [])) ⌝ }
 {
-    if most < list[i][0] {
+    if most < list[i][Listed::DEPTH] {
         return true;
     }
-    if Kind::CONTEXT < list[i][1] {
+    if Kind::CONTEXT < list[i][Listed::KIND] {
         return true;
     }
     if is_orphan(list, cells, i) {
         return true;
     }
-    is_broken_span(cells, compare::wide(list[i][2]), compare::wide(list[i][3]))
+    is_broken_span(
+        cells,
+        compare::wide(list[i][Listed::START]),
+        compare::wide(list[i][Listed::LENGTH]),
+    )
 }
 
-pub fn any_broken(list: &[[u32; 4]], cells: &[u32], most: u32) -> bool
+pub fn any_broken(list: &[[u32; Listed::NUMBERS]], cells: &[u32], most: u32) -> bool
     requires { ⌜ anyOutside (now cells) (now list) ≡ false ⌝ }
     ensures { λ r. ⌜ ((k : ℕ) → r ≡ listing.anyBrokenTo most [] (listed k (now (cells .entry)) (now (list .entry)))) ⌝ }
 {
@@ -111,31 +116,31 @@ fn is_same_span(cells: &[u32], a: usize, n: usize, b: usize, m: usize) -> bool
 }
 
 // Whether the entries at i and j have one depth and one name.
-fn is_same_row(list: &[[u32; 4]], cells: &[u32], i: usize, j: usize) -> bool
+fn is_same_row(list: &[[u32; Listed::NUMBERS]], cells: &[u32], i: usize, j: usize) -> bool
     requires { ⌜ (i < length (now list)) × (j < length (now list)) × (anyOutside (now cells) (now list) ≡ false) ⌝ }
     ensures { λ r. ⌜ ((k : ℕ) → r ≡ (eqb (spanned k (now (cells .entry)) (getD (now (list .entry)) j []) .depth) (spanned k (now (cells .entry)) (getD (now (list .entry)) i []) .depth)
         && same (spanned k (now (cells .entry)) (getD (now (list .entry)) j []) .name) (spanned k (now (cells .entry)) (getD (now (list .entry)) i []) .name))) ⌝ }
 {
-    if list[j][0] != list[i][0] {
+    if list[j][Listed::DEPTH] != list[i][Listed::DEPTH] {
         return false;
     }
     is_same_span(
         cells,
-        compare::wide(list[j][2]),
-        compare::wide(list[j][3]),
-        compare::wide(list[i][2]),
-        compare::wide(list[i][3]),
+        compare::wide(list[j][Listed::START]),
+        compare::wide(list[j][Listed::LENGTH]),
+        compare::wide(list[i][Listed::START]),
+        compare::wide(list[i][Listed::LENGTH]),
     )
 }
 
 // Whether the name of the entry at i stands again at its level.
-fn is_repeated(list: &[[u32; 4]], cells: &[u32], i: usize) -> bool
+fn is_repeated(list: &[[u32; Listed::NUMBERS]], cells: &[u32], i: usize) -> bool
     requires { ⌜ (i < length (now list)) × (anyOutside (now cells) (now list) ≡ false) ⌝ }
     ensures { λ r. ⌜ ((k : ℕ) → r ≡ isRepeated (spanned k (now (cells .entry)) (getD (now (list .entry)) i [])) (drop (i + 1) (listed k (now (cells .entry)) (now (list .entry))))) ⌝ }
 {
     let mut j = i + 1;
     while j < list.len() {
-        if list[j][0] < list[i][0] {
+        if list[j][Listed::DEPTH] < list[i][Listed::DEPTH] {
             return false;
         }
         if is_same_row(list, cells, i, j) {
@@ -147,11 +152,11 @@ fn is_repeated(list: &[[u32; 4]], cells: &[u32], i: usize) -> bool
 }
 
 // Whether the entry at i stays, where all of depth cut or deeper goes.
-pub fn stays(list: &[[u32; 4]], cells: &[u32], i: usize, cut: u32) -> bool
+pub fn stays(list: &[[u32; Listed::NUMBERS]], cells: &[u32], i: usize, cut: u32) -> bool
     requires { ⌜ (i < length (now list)) × (anyOutside (now cells) (now list) ≡ false) ⌝ }
     ensures { λ r. ⌜ ((k : ℕ) → r ≡ listing.stays cut (spanned k (now (cells .entry)) (getD (now (list .entry)) i [])) (drop (i + 1) (listed k (now (cells .entry)) (now (list .entry))))) ⌝ }
 {
-    if cut <= list[i][0] {
+    if cut <= list[i][Listed::DEPTH] {
         return false;
     }
     !is_repeated(list, cells, i)
@@ -180,14 +185,14 @@ pub fn counted(kept: bool) -> usize
 }
 
 // Whether the name of the entry at i stood before at its level.
-fn is_seen(list: &[[u32; 4]], cells: &[u32], i: usize) -> bool
+fn is_seen(list: &[[u32; Listed::NUMBERS]], cells: &[u32], i: usize) -> bool
     requires { ⌜ (i < length (now list)) × (anyOutside (now cells) (now list) ≡ false) ⌝ }
     ensures { λ r. ⌜ ((k : ℕ) → r ≡ isRepeated (spanned k (now (cells .entry)) (getD (now (list .entry)) i [])) (earlier i (listed k (now (cells .entry)) (now (list .entry))) [])) ⌝ }
 {
     let mut j = i;
     while 0 < j {
         j -= 1;
-        if list[j][0] < list[i][0] {
+        if list[j][Listed::DEPTH] < list[i][Listed::DEPTH] {
             return false;
         }
         if is_same_row(list, cells, i, j) {
@@ -198,11 +203,11 @@ fn is_seen(list: &[[u32; 4]], cells: &[u32], i: usize) -> bool
 }
 
 // 1 for an entry that is not cut off and whose name did not stand before.
-fn fresh(list: &[[u32; 4]], cells: &[u32], i: usize, cut: u32) -> usize
+fn fresh(list: &[[u32; Listed::NUMBERS]], cells: &[u32], i: usize, cut: u32) -> usize
     requires { ⌜ (i < length (now list)) × (anyOutside (now cells) (now list) ≡ false) ⌝ }
     ensures { λ r. ⌜ ((k : ℕ) → r ≡ firsts.fresh cut (spanned k (now (cells .entry)) (getD (now (list .entry)) i [])) (earlier i (listed k (now (cells .entry)) (now (list .entry))) [])) × (r ≤ 1) ⌝ }
 {
-    if cut <= list[i][0] {
+    if cut <= list[i][Listed::DEPTH] {
         return 0;
     }
     if is_seen(list, cells, i) {
@@ -212,18 +217,18 @@ fn fresh(list: &[[u32; 4]], cells: &[u32], i: usize, cut: u32) -> usize
 }
 
 // The cut behind the entry at i; whether it is replaced is asked only if something stands below it.
-fn cut_behind(list: &[[u32; 4]], cells: &[u32], i: usize, cut: u32) -> u32
+fn cut_behind(list: &[[u32; Listed::NUMBERS]], cells: &[u32], i: usize, cut: u32) -> u32
     requires { ⌜ (i < length (now list)) × (anyOutside (now cells) (now list) ≡ false) ⌝ }
     ensures { λ r. ⌜ ((k : ℕ) → r ≡ firsts.cutBehind cut (spanned k (now (cells .entry)) (getD (now (list .entry)) i [])) (drop (i + 1) (listed k (now (cells .entry)) (now (list .entry))))) ⌝ }
 {
-    let depth = list[i][0];
+    let depth = list[i][Listed::DEPTH];
     if cut <= depth {
         return cut;
     }
     if list.len() <= i + 1 {
         return NO_CUT;
     }
-    if list[i + 1][0] <= depth {
+    if list[i + 1][Listed::DEPTH] <= depth {
         return NO_CUT;
     }
     if is_repeated(list, cells, i) {
@@ -235,7 +240,7 @@ fn cut_behind(list: &[[u32; 4]], cells: &[u32], i: usize, cut: u32) -> u32
 // How many entries are left after replacing, counted up to the first number that no scope has room for: every larger one is refused alike.
 // Names are counted where they are first seen, so that no more than that many are ever searched for.
 // Ruled out, among others: the limit counted before replacing; 513 different names taken for 512.
-pub fn remaining(list: &[[u32; 4]], cells: &[u32]) -> usize
+pub fn remaining(list: &[[u32; Listed::NUMBERS]], cells: &[u32]) -> usize
     requires { ⌜ anyOutside (now cells) (now list) ≡ false ⌝ }
     ensures { λ r. ⌜ ((k : ℕ) → r ≡ min (suc maxEntries) (length (settled (listed k (now (cells .entry)) (now (list .entry)))))) ⌝ }
 {

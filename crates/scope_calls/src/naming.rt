@@ -19,12 +19,14 @@ use scope::broken;
 use scope::compare;
 use scope::scope::Changed;
 use scope::scope::Kind;
+use scope::scope::Listed;
 use scope::scope::Scope;
+use scope::scope::Slot;
 use text::refusal::Refusal;
 
 // Whether the entry at i stays beside a new one of this name at depth 0, where all of depth cut or deeper goes.
 fn stays_beside(
-    slots: &[[u32; 4]],
+    slots: &[[u32; Slot::NUMBERS]],
     names: &[[u32; Scope::MAX_NAME]],
     i: usize,
     cut: u32,
@@ -33,18 +35,23 @@ fn stays_beside(
     requires { ⌜ (i < length (now slots)) × (i < length (now names)) × (getD (getD (now slots) i []) 3 0 ≤ maxName) ⌝ }
     ensures { λ r. ⌜ r ≡ staysBeside cut (entryAt (now (slots .entry)) (now (names .entry)) i) (now (name .entry)) ⌝ }
 {
-    if cut <= slots[i][1] {
+    if cut <= slots[i][Slot::DEPTH] {
         return false;
     }
-    if slots[i][1] != 0 {
+    if slots[i][Slot::DEPTH] != 0 {
         return true;
     }
-    !compare::same_cells(&names[i], compare::wide(slots[i][3]), name, name.len())
+    !compare::same_cells(
+        &names[i],
+        compare::wide(slots[i][Slot::LENGTH]),
+        name,
+        name.len(),
+    )
 }
 
 // How many entries from `from` on stay.
 fn left_beside(
-    slots: &[[u32; 4]],
+    slots: &[[u32; Slot::NUMBERS]],
     names: &[[u32; Scope::MAX_NAME]],
     from: usize,
     count: usize,
@@ -59,7 +66,7 @@ fn left_beside(
     while i < count {
         let kept = stays_beside(slots, names, i, cut, name);
         n += list::counted(kept);
-        cut = list::cut_after(cut, slots[i][1], kept);
+        cut = list::cut_after(cut, slots[i][Slot::DEPTH], kept);
         i += 1;
     }
     n
@@ -67,7 +74,7 @@ fn left_beside(
 
 // Moves the entry at i down to the place `to`, if it stays; answers the next free place.
 fn move_kept(
-    slots: &mut [[u32; 4]],
+    slots: &mut [[u32; Slot::NUMBERS]],
     names: &mut [[u32; Scope::MAX_NAME]],
     i: usize,
     to: usize,
@@ -86,7 +93,7 @@ fn move_kept(
 
 // Moves the entries from `from` on that stay together; answers the next free place.
 fn take_out(
-    slots: &mut [[u32; 4]],
+    slots: &mut [[u32; Slot::NUMBERS]],
     names: &mut [[u32; Scope::MAX_NAME]],
     from: usize,
     count: usize,
@@ -100,7 +107,7 @@ fn take_out(
     let mut i = from;
     while i < count {
         let kept = stays_beside(slots, names, i, cut, name);
-        let depth = slots[i][1];
+        let depth = slots[i][Slot::DEPTH];
         to = move_kept(slots, names, i, to, kept);
         cut = list::cut_after(cut, depth, kept);
         i += 1;
@@ -110,7 +117,7 @@ fn take_out(
 
 // Takes the entry of this name out of those from `from` on, and puts a new one behind the rest; answers the next free place.
 fn replace(
-    slots: &mut [[u32; 4]],
+    slots: &mut [[u32; Slot::NUMBERS]],
     names: &mut [[u32; Scope::MAX_NAME]],
     from: usize,
     count: usize,
@@ -132,7 +139,7 @@ fn replace(
 // Ruled out, among others: the limit counted before replacing; a context's entries left without it.
 pub fn set_entry_name(
     s: Scope,
-    slots: &mut [[u32; 4]],
+    slots: &mut [[u32; Slot::NUMBERS]],
     names: &mut [[u32; Scope::MAX_NAME]],
     name: &[u32],
 ) -> Changed
@@ -172,10 +179,10 @@ pub fn set_entry_name(
 // Ruled out, among others: the list's depth 7 let pass; the list written before the limit is known to hold.
 pub fn set_context(
     s: Scope,
-    slots: &mut [[u32; 4]],
+    slots: &mut [[u32; Slot::NUMBERS]],
     names: &mut [[u32; Scope::MAX_NAME]],
     name: &[u32],
-    rows: &[[u32; 4]],
+    rows: &[[u32; Listed::NUMBERS]],
     cells: &[u32],
 ) -> Changed
     ensures { λ r. ⌜ (answerOf r (now (slots .exit)) (now (names .exit)) ≡ onScope (lent s (now (slots .entry)) (now (names .entry))) (setContextList (now (name .entry)) (now (cells .entry)) (now (rows .entry))))

@@ -7,13 +7,14 @@ use crate::write;
 use scope::broken;
 use scope::scope::Changed;
 use scope::scope::Scope;
+use scope::scope::Slot;
 use text::refusal::Refusal;
 
 // Adds a parsed name; one that is there already changes nothing.
 // Ruled out, among others: a name that is there refused for want of room; an entry's row written.
 pub fn add_parsed_name(
     s: Scope,
-    slots: &mut [[u32; 4]],
+    slots: &mut [[u32; Slot::NUMBERS]],
     names: &mut [[u32; Scope::MAX_NAME]],
     name: &[u32],
 ) -> Changed

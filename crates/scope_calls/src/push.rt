@@ -15,17 +15,19 @@ use crate::write;
 use scope::broken;
 use scope::compare;
 use scope::scope::Changed;
+use scope::scope::Listed;
 use scope::scope::Scope;
+use scope::scope::Slot;
 use text::refusal::Refusal;
 
 // Writes the entry at i, if it stays, with `up` added to its depth; answers the next free place.
 fn put_kept(
-    slots: &mut [[u32; 4]],
+    slots: &mut [[u32; Slot::NUMBERS]],
     names: &mut [[u32; Scope::MAX_NAME]],
     at: usize,
     context: u32,
     up: u32,
-    rows: &[[u32; 4]],
+    rows: &[[u32; Listed::NUMBERS]],
     cells: &[u32],
     i: usize,
     kept: bool,
@@ -37,15 +39,15 @@ fn put_kept(
     if !kept {
         return at;
     }
-    let start = compare::wide(rows[i][2]);
-    let end = start + compare::wide(rows[i][3]);
+    let start = compare::wide(rows[i][Listed::START]);
+    let end = start + compare::wide(rows[i][Listed::LENGTH]);
     write::put(
         slots,
         names,
         at,
         context,
-        rows[i][0] + up,
-        rows[i][1],
+        rows[i][Listed::DEPTH] + up,
+        rows[i][Listed::KIND],
         &cells[start..end],
     );
     at + 1
@@ -53,12 +55,12 @@ fn put_kept(
 
 // Writes the entries that are left after replacing, from the place `from` on; answers the next free place.
 pub fn append(
-    slots: &mut [[u32; 4]],
+    slots: &mut [[u32; Slot::NUMBERS]],
     names: &mut [[u32; Scope::MAX_NAME]],
     from: usize,
     context: u32,
     up: u32,
-    rows: &[[u32; 4]],
+    rows: &[[u32; Listed::NUMBERS]],
     cells: &[u32],
 ) -> usize
     requires { ⌜ (anyOutside (now cells) (now rows) ≡ false) × ((k : ℕ) → anyBrokenTo maxDepth [] (listed k (now cells) (now rows)) ≡ false) × (up ≤ 1)
@@ -71,7 +73,7 @@ pub fn append(
     while i < rows.len() {
         let kept = list::stays(rows, cells, i, cut);
         at = put_kept(slots, names, at, context, up, rows, cells, i, kept);
-        cut = list::cut_after(cut, rows[i][0], kept);
+        cut = list::cut_after(cut, rows[i][Listed::DEPTH], kept);
         i += 1;
     }
     at
@@ -81,9 +83,9 @@ pub fn append(
 // Ruled out, among others: a repeat that keeps what was below it; the limit counted before replacing.
 pub fn push(
     s: Scope,
-    slots: &mut [[u32; 4]],
+    slots: &mut [[u32; Slot::NUMBERS]],
     names: &mut [[u32; Scope::MAX_NAME]],
-    rows: &[[u32; 4]],
+    rows: &[[u32; Listed::NUMBERS]],
     cells: &[u32],
 ) -> Changed
     ensures { λ r. ⌜ (answerOf r (now (slots .exit)) (now (names .exit)) ≡ onScope (lent s (now (slots .entry)) (now (names .entry))) (pushList (now (cells .entry)) (now (rows .entry))))

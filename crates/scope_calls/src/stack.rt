@@ -9,11 +9,12 @@ use scope::broken;
 use scope::compare;
 use scope::scope::Changed;
 use scope::scope::Scope;
+use scope::scope::Slot;
 use text::refusal::Refusal;
 
 // The number of entries before the first of context k.
 pub fn before_context(
-    slots: &[[u32; 4]],
+    slots: &[[u32; Slot::NUMBERS]],
     names: &[[u32; Scope::MAX_NAME]],
     count: usize,
     k: usize,
@@ -24,7 +25,7 @@ pub fn before_context(
 {
     let mut i: usize = 0;
     while i < count {
-        if k <= compare::wide(slots[i][0]) {
+        if k <= compare::wide(slots[i][Slot::CONTEXT]) {
             return i;
         }
         i += 1;
@@ -34,7 +35,7 @@ pub fn before_context(
 
 // Pops the last context; the parsed names stay. Nothing is written.
 // Ruled out, among others: an empty stack refused; parsed names popped with their context.
-pub fn pop(s: Scope, slots: &[[u32; 4]], names: &[[u32; Scope::MAX_NAME]]) -> Changed
+pub fn pop(s: Scope, slots: &[[u32; Slot::NUMBERS]], names: &[[u32; Scope::MAX_NAME]]) -> Changed
     ensures { λ r. ⌜ (answerOf r (now (slots .entry)) (now (names .entry)) ≡ onScope (lent s (now (slots .entry)) (now (names .entry))) spec.pop) × Whole r (now (slots .entry)) (now (names .entry)) ⌝ }
 {
     if broken::is_broken(s, slots, names) {
@@ -53,7 +54,11 @@ pub fn pop(s: Scope, slots: &[[u32; 4]], names: &[[u32; Scope::MAX_NAME]]) -> Ch
 }
 
 // Pushes an empty context. Nothing is written.
-pub fn push_default(s: Scope, slots: &[[u32; 4]], names: &[[u32; Scope::MAX_NAME]]) -> Changed
+pub fn push_default(
+    s: Scope,
+    slots: &[[u32; Slot::NUMBERS]],
+    names: &[[u32; Scope::MAX_NAME]],
+) -> Changed
     ensures { λ r. ⌜ (answerOf r (now (slots .entry)) (now (names .entry)) ≡ onScope (lent s (now (slots .entry)) (now (names .entry))) spec.pushDefault) × Whole r (now (slots .entry)) (now (names .entry)) ⌝ }
 {
     if broken::is_broken(s, slots, names) {

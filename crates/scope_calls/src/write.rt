@@ -7,6 +7,7 @@ ghost use Rattle.reading.specs.Slices.{front};
 ghost use Rattle.scope.specs.Limits.{maxName};
 ghost use Rattle.scope_calls.specs.Written.{Appended};
 use scope::scope::Scope;
+use scope::scope::Slot;
 
 // The cells fill the front of out.
 fn copy(cells: &[u32], out: &mut [u32])
@@ -22,7 +23,7 @@ fn copy(cells: &[u32], out: &mut [u32])
 
 // Writes an entry to a slot and its name to the front of the row beside it.
 pub fn put(
-    slots: &mut [[u32; 4]],
+    slots: &mut [[u32; Slot::NUMBERS]],
     names: &mut [[u32; Scope::MAX_NAME]],
     at: usize,
     context: u32,

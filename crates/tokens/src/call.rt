@@ -16,6 +16,7 @@ use lexer::flags::Flags;
 use lexer::token::Read;
 use lexer::token_type::TokenType;
 use scope::scope::Scope;
+use scope::scope::Slot;
 use text::refusal::Refusal;
 use text::utf8::Text;
 
@@ -166,7 +167,7 @@ fn refusal(
     n: usize,
     position: usize,
     s: Scope,
-    slots: &[[u32; 4]],
+    slots: &[[u32; Slot::NUMBERS]],
     names: &[[u32; Scope::MAX_NAME]],
     out: usize,
     scratch: usize,
@@ -196,7 +197,7 @@ fn step(
     l: Lexer,
     text: &[u32],
     s: Scope,
-    slots: &[[u32; 4]],
+    slots: &[[u32; Slot::NUMBERS]],
     names: &[[u32; Scope::MAX_NAME]],
     out: &mut [u32],
     scratch: &mut [u32],
@@ -243,7 +244,7 @@ pub fn next_token(
     l: Lexer,
     text: &[u32],
     s: Scope,
-    slots: &[[u32; 4]],
+    slots: &[[u32; Slot::NUMBERS]],
     names: &[[u32; Scope::MAX_NAME]],
     out: &mut [u32],
     scratch: &mut [u32],

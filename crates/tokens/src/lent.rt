@@ -8,6 +8,7 @@ use crate::call;
 use crate::call::Lexer;
 use lexer::token::Read;
 use scope::scope::Scope;
+use scope::scope::Slot;
 
 impl Lexer {
     // The setters set one flag and clear none.
@@ -48,7 +49,7 @@ impl Lexer {
         &mut self,
         text: &[u32],
         s: Scope,
-        slots: &[[u32; 4]],
+        slots: &[[u32; Slot::NUMBERS]],
         names: &[[u32; Scope::MAX_NAME]],
         out: &mut [u32],
         scratch: &mut [u32],

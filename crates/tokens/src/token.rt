@@ -33,6 +33,7 @@ use lexer::token::Read;
 use lexer::token_type::TokenType;
 use lexer::window;
 use scope::scope::Scope;
+use scope::scope::Slot;
 use text::chars::Char;
 
 // A token without a value.
@@ -146,7 +147,7 @@ fn other_cases(
     q: usize,
     flags: Flags,
     s: Scope,
-    slots: &[[u32; 4]],
+    slots: &[[u32; Slot::NUMBERS]],
     names: &[[u32; Scope::MAX_NAME]],
     cap: usize,
     out: &mut [u32],
@@ -197,7 +198,7 @@ fn behind_words(
     q: usize,
     flags: Flags,
     s: Scope,
-    slots: &[[u32; 4]],
+    slots: &[[u32; Slot::NUMBERS]],
     names: &[[u32; Scope::MAX_NAME]],
     cap: usize,
     out: &mut [u32],
@@ -238,7 +239,7 @@ fn by_window(
     i: usize,
     flags: Flags,
     s: Scope,
-    slots: &[[u32; 4]],
+    slots: &[[u32; Slot::NUMBERS]],
     names: &[[u32; Scope::MAX_NAME]],
     cap: usize,
     out: &mut [u32],
@@ -274,7 +275,7 @@ pub fn read_token(
     rest: &[u32],
     flags: Flags,
     s: Scope,
-    slots: &[[u32; 4]],
+    slots: &[[u32; Slot::NUMBERS]],
     names: &[[u32; Scope::MAX_NAME]],
     cap: usize,
     out: &mut [u32],

@@ -2,11 +2,10 @@
 use mathlib.Core.Path.{_≡_, refl, sym, _∙_}
 use native.Mathlib.Omega.{arith}
 use Prim.Native.Nat.{_-_, _≤_}
-use lib.ListN.{length, getD, drop}
-use mathlib.Core.List.{[]}
+use lib.ListN.{length, drop}
 use borrow.Author.Tests.{not-true, not-false}
 use Rattle.refusals.specs.Filled.{sameRows}
-use Rattle.refusals.proofs.FilledLaws.{whole, rows-in, rows-out, rows-short, rows-end}
+use Rattle.refusals.proofs.FilledLaws.{rows-in, rows-out, rows-short, rows-end}
 use Rattle.refusals.proofs.filled.same_slots.Statement.{statement}
 use Rattle.refusals.proofs.filled.same_slots.Tie as tie
 use Rattle.refusals.proofs.filled.same_slots.Reads as reads
@@ -41,7 +40,7 @@ same-cells-requires : tie.Need-same-cells-requires Inv-loop μ-loop
 same-cells-requires c κs = omega arith
 
 returns-2 : tie.Need-returns-2 Inv-loop μ-loop
-returns-2 c = let k = c .before .before .before .before .before .before .before .before in let a = k .before .args in sym (k .loop .inv .1 ∙ rows-out (a .a .now) (a .b .now) (k .loop .i) (omega arith) (omega arith) (sym (whole 4 (getD (a .a .now) (k .loop .i) []) (getD (a .b .now) (k .loop .i) []) (omega arith) (omega arith) (c .before .same-cells .ensures)) ∙ not-true _ (c .if2 .taken)))
+returns-2 c = let k = c .before .before .before .before .before .before .before .before in let a = k .before .args in sym (k .loop .inv .1 ∙ rows-out 4 (a .a .now) (a .b .now) (k .loop .i) (omega arith) (omega arith) (omega arith) (omega arith) (c .before .same-cells .ensures) (not-true _ (c .if2 .taken)))
 
 add-i : tie.Need-add-i Inv-loop μ-loop
 add-i c = omega arith
@@ -50,7 +49,7 @@ loop-less : tie.Need-loop-less Inv-loop μ-loop
 loop-less c = omega arith
 
 loop-again : tie.Need-loop-again Inv-loop μ-loop
-loop-again c = let k = c .before .before .before .before .before .before .before .before in let a = k .before .args in (omega arith, k .loop .inv .1 ∙ rows-in (a .a .now) (a .b .now) (k .loop .i) (omega arith) (omega arith) (sym (whole 4 (getD (a .a .now) (k .loop .i) []) (getD (a .b .now) (k .loop .i) []) (omega arith) (omega arith) (c .before .same-cells .ensures)) ∙ not-false _ (c .if2 .left)))
+loop-again c = let k = c .before .before .before .before .before .before .before .before in let a = k .before .args in (omega arith, k .loop .inv .1 ∙ rows-in 4 (a .a .now) (a .b .now) (k .loop .i) (omega arith) (omega arith) (omega arith) (omega arith) (c .before .same-cells .ensures) (not-false _ (c .if2 .left)))
 
 returns-3 : tie.Need-returns-3 Inv-loop μ-loop
 returns-3 c = let k = c .before in let a = k .before .args in sym (k .loop .inv .1 ∙ rows-end (a .a .now) (a .b .now) (k .loop .i) (omega arith))

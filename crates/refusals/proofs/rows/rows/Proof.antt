@@ -5,7 +5,7 @@ use Rattle.refusals.proofs.rows.rows.Statement.{statement}
 use Rattle.refusals.proofs.rows.rows.Tie as tie
 use Rattle.refusals.proofs.rows.rows.Reads as reads
 use Rattle.refusals.proofs.rows.rows.Lts as lts
-use Rattle.say.proofs.row.Reads as row-reads
+use Rattle.say.proofs.numbers.Reads as numbers-reads
 use Rattle.say.proofs.words.Reads as words-reads
 
 abbrev Inv-loop : tie.InvT-loop
@@ -20,14 +20,14 @@ loop-holds c = omega arith
 returns : tie.Need-returns Inv-loop μ-loop
 returns c = tt
 
-mul-row : tie.Need-mul-row Inv-loop μ-loop
-mul-row c = omega arith
+mul-numbers : tie.Need-mul-numbers Inv-loop μ-loop
+mul-numbers c = omega arith
 
-shared-slice-copy-out-row : tie.Need-shared-slice-copy-out-row Inv-loop μ-loop
-shared-slice-copy-out-row c = omega arith
+shared-slice-element-numbers : tie.Need-shared-slice-element-numbers Inv-loop μ-loop
+shared-slice-element-numbers c = omega arith
 
-row-requires : tie.Need-row-requires Inv-loop μ-loop
-row-requires c κs = tt
+numbers-requires : tie.Need-numbers-requires Inv-loop μ-loop
+numbers-requires c κs = tt
 
 slice-aggregate-words : tie.Need-slice-aggregate-words Inv-loop μ-loop
 slice-aggregate-words c = omega arith
@@ -55,9 +55,9 @@ rows-spec =
     μ-loop
     loop-holds
     returns
-    mul-row
-    shared-slice-copy-out-row
-    row-requires
+    mul-numbers
+    shared-slice-element-numbers
+    numbers-requires
     slice-aggregate-words
     words-requires
     add-i

@@ -6,7 +6,7 @@ use Rattle.replay.proofs.record.rows.Statement.{statement}
 use Rattle.replay.proofs.record.rows.Tie as tie
 use Rattle.replay.proofs.record.rows.Reads as reads
 use Rattle.replay.proofs.record.rows.Lts as lts
-use Rattle.say.proofs.row.Reads as row-reads
+use Rattle.say.proofs.numbers.Reads as numbers-reads
 
 abbrev Inv-loop : tie.InvT-loop
 Inv-loop all i₀ i = i ≤ length all
@@ -17,14 +17,14 @@ abbrev μ-loop : tie.MeasureT-loop
 loop-holds : tie.Need-loop-holds Inv-loop μ-loop
 loop-holds c = omega arith
 
-mul-row : tie.Need-mul-row Inv-loop μ-loop
-mul-row c = omega arith
+mul-numbers : tie.Need-mul-numbers Inv-loop μ-loop
+mul-numbers c = omega arith
 
-shared-slice-copy-out-row : tie.Need-shared-slice-copy-out-row Inv-loop μ-loop
-shared-slice-copy-out-row c = omega arith
+shared-slice-element-numbers : tie.Need-shared-slice-element-numbers Inv-loop μ-loop
+shared-slice-element-numbers c = omega arith
 
-row-requires : tie.Need-row-requires Inv-loop μ-loop
-row-requires c κs = tt
+numbers-requires : tie.Need-numbers-requires Inv-loop μ-loop
+numbers-requires c κs = tt
 
 add-i : tie.Need-add-i Inv-loop μ-loop
 add-i c = omega arith
@@ -45,9 +45,9 @@ rows-spec =
     Inv-loop
     μ-loop
     loop-holds
-    mul-row
-    shared-slice-copy-out-row
-    row-requires
+    mul-numbers
+    shared-slice-element-numbers
+    numbers-requires
     add-i
     loop-less
     loop-again

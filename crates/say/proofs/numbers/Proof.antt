@@ -1,19 +1,20 @@
--- The index stays within the eleven numbers.
+-- The index stays within the numbers.
 use native.Mathlib.Omega.{arith}
 use Prim.Native.Nat.{_-_, _≤_}
-use Rattle.say.proofs.row.Statement.{statement}
-use Rattle.say.proofs.row.Tie as tie
-use Rattle.say.proofs.row.Reads as reads
-use Rattle.say.proofs.row.Lts as lts
+use lib.ListN.{length}
+use Rattle.say.proofs.numbers.Statement.{statement}
+use Rattle.say.proofs.numbers.Tie as tie
+use Rattle.say.proofs.numbers.Reads as reads
+use Rattle.say.proofs.numbers.Lts as lts
 use Rattle.say.proofs.wide.Reads as wide-reads
 use Rattle.say.proofs.decimal.Reads as decimal-reads
 use Rattle.say.proofs.words.Reads as words-reads
 
 abbrev Inv-loop : tie.InvT-loop
-Inv-loop r i₀ t4 i = i ≤ 11
+Inv-loop all i₀ t4 i = i ≤ length all
 
 abbrev μ-loop : tie.MeasureT-loop
-μ-loop r i₀ t4 i = 11 - i
+μ-loop all i₀ t4 i = length all - i
 
 loop-holds : tie.Need-loop-holds Inv-loop μ-loop
 loop-holds c = omega arith
@@ -27,8 +28,8 @@ words-requires c κs = tt
 mul-wide : tie.Need-mul-wide Inv-loop μ-loop
 mul-wide c = omega arith
 
-array-read-wide : tie.Need-array-read-wide Inv-loop μ-loop
-array-read-wide c = omega arith
+shared-slice-read-wide : tie.Need-shared-slice-read-wide Inv-loop μ-loop
+shared-slice-read-wide c = omega arith
 
 wide-requires : tie.Need-wide-requires Inv-loop μ-loop
 wide-requires c κs = tt
@@ -48,8 +49,8 @@ loop-again c = omega arith
 returns : tie.Need-returns Inv-loop μ-loop
 returns c = tt
 
-pub row-spec : {M : Type 1} → statement M
-row-spec =
+pub numbers-spec : {M : Type 1} → statement M
+numbers-spec =
     tie.close
     (tie.spec
     Inv-loop
@@ -58,7 +59,7 @@ row-spec =
     slice-aggregate-words
     words-requires
     mul-wide
-    array-read-wide
+    shared-slice-read-wide
     wide-requires
     decimal-requires
     add-i
