@@ -2,7 +2,7 @@
 use mathlib.Core.Bool.{cond}
 use mathlib.Core.List.{List}
 use Prim.Native.Nat.{ℕ}
-use Rattle.names.specs.Functions.{isFunctionName}
+use Rattle.functions.specs.Functions.{isFunctionName}
 
 abbrev pub feelIsBuiltInFunctionName : List ℕ → ℕ
 feelIsBuiltInFunctionName name = cond (isFunctionName name) 1 0

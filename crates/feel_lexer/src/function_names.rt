@@ -8,7 +8,7 @@ ghost use Rattle.feel_lexer.specs.FunctionNames as spec;
 pub extern "C" fn feel_is_built_in_function_name(name: &[u32]) -> u32
     ensures { λ r. ⌜ r ≡ spec.feelIsBuiltInFunctionName (now (name .entry)) ⌝ }
 {
-    if names::functions::is_built_in_function_name(name) {
+    if functions::functions::is_built_in_function_name(name) {
         return 1;
     }
     0

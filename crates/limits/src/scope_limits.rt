@@ -1,7 +1,6 @@
 // The scope calls at their limits, each trial in rows of its own. A call is printed with its answer, and what it gives back is the scope after it.
 use crate::answers;
 use scope::broken;
-use scope::keys;
 use scope::scope::Changed;
 use scope::scope::Listed;
 use scope::scope::Scope;
@@ -10,6 +9,7 @@ use scope_calls::naming;
 use scope_calls::parsed;
 use scope_calls::push;
 use scope_calls::stack;
+use search::keys;
 
 // The characters that lists take their names from.
 const ABC: [u32; 3] = [0x61, 0x62, 0x63];

@@ -1,10 +1,8 @@
 pub mod Shorter
 pub mod NameCases
-pub mod FunctionCases
 pub mod TrimLaws
 pub mod TightenLaws
 pub mod FlattenLaws
 pub mod SameLaws
-pub mod FunctionLaws
 pub mod NameLaws
 pub mod InkLaws

@@ -3,6 +3,5 @@ pub mod Trim
 pub mod Name
 pub mod Flatten
 pub mod Fixed
-pub mod Functions
 pub mod Spelling
 pub mod Ink

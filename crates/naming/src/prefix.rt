@@ -46,7 +46,7 @@ fn find(
     ensures { λ r. ⌜ Asked (flagsOf flags) (isName (scopeOf (lent s (now (slots .entry)) (now (names .entry))))) (now (text .entry)) (r .found) (r .property) ⌝ }
 {
     if !flags.after_dot {
-        let found = scope::keys::is_name(s, slots, names, text);
+        let found = search::keys::is_name(s, slots, names, text);
         return Finding {
             found,
             property: false,
@@ -58,7 +58,7 @@ fn find(
             property: true,
         };
     }
-    let found = scope::keys::is_name(s, slots, names, text);
+    let found = search::keys::is_name(s, slots, names, text);
     Finding {
         found,
         property: false,

@@ -1,12 +1,12 @@
 -- What follows from a computed test.
-use mathlib.Core.Path.{_≡_, refl}
+use mathlib.Core.Path.{_≡_, refl, sym}
 use mathlib.Core.Bool.{Bool, true, false, cond, _&&_, _||_, true≢false, false≢true}
 use mathlib.Core.List.{List, [], _∷_}
 use Prim.Native.Nat.{ℕ, zero, suc, _≤_, _<_}
 use native.Mathlib.Nat.{not-suc-le-zero}
 use native.Mathlib.Omega.{arith}
 use lib.Dec.{ltb, eqb}
-use borrow.Author.Tests.{ltb-true, ltb-false, eqb-true}
+use borrow.Author.Tests.{ltb-true, ltb-false, eqb-true, ne-eqb}
 use Rattle.reading.specs.Cells.{isOneOf}
 
 pub by-test : {A : Type 0} (P : A → Type 0) (b : Bool) {x y : A} → (b ≡ true → P x) → (b ≡ false → P y) → P (cond b x y)
@@ -28,6 +28,10 @@ or-left false b h = refl
 pub or-right : (a b : Bool) → a || b ≡ false → b ≡ false
 or-right true b h = absurd (true≢false h)
 or-right false b h = h
+
+-- What is not k fails the test for it.
+pub other : {c k : ℕ} → (c ≡ k → ⊥) → eqb k c ≡ false
+other {c} {k} h = ne-eqb k c (λ e. h (sym e))
 
 pub by-order : {Z : Type 0} (i n : ℕ) → (i < n → Z) → (n ≤ i → Z) → Z
 by-order {Z} i n f g = go (ltb i n) refl

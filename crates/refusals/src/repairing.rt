@@ -179,7 +179,7 @@ fn change(rows: &mut [[u32; Item::NUMBERS]], row: usize, column: usize, n: u32) 
     if rows.len() <= row {
         return;
     }
-    if 11 <= column {
+    if Item::NUMBERS <= column {
         return;
     }
     rows[row][column] = n;

@@ -134,7 +134,7 @@ fn read_to_match(
     ensures { λ r. ⌜ ToMatch (readToken (isName (scopeOf (lent s (now (slots .entry)) (now (names .entry)))))) (editOf e) (now («old_rows» .entry)) (now (part .entry)) base (flagsOf flags) (kept .items) (kept .cells) (now (rows .entry)) (now (store .entry)) r (now (rows .exit)) (now (store .exit))
         × (now (scratch .exit) ≡ now (scratch .entry)) ⌝ }
 {
-    let cap = scope::longest::longest_key(s, slots, names);
+    let cap = search::longest::longest_key(s, slots, names);
     let mut at = Progress {
         position: 0,
         flags,

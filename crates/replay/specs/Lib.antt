@@ -1,2 +1,5 @@
 pub mod Fields
+pub mod Laid
+pub mod Entries
 pub mod After
+pub mod Printed

@@ -1,23 +1,24 @@
 // A scope from its calls, as a case gives them.
 ghost use mathlib.Core.Path.{_≡_};
 ghost use mathlib.Core.Bool.{false};
-ghost use Prim.Native.Nat.{_+_, _≤_};
+ghost use Prim.Native.Nat.{_+_, _≤_, min};
 ghost use lib.ListN.{length};
 ghost use Rattle.scope.specs.Limits.{maxEntries, maxParsed};
-ghost use Rattle.scope.specs.Lent.{isBroken};
-ghost use Rattle.scope.specs.Answers.{lent, Kept, Whole};
-ghost use Rattle.replay.specs.After.{afterCall};
+ghost use Rattle.scope.specs.Lent.{isBroken, scopeOf, onScope};
+ghost use Rattle.scope.specs.Answers.{lent, answerOf, Kept, Whole};
+ghost use Rattle.replay.specs.Laid.{laid, Lays};
+ghost use Rattle.replay.specs.Entries as spec;
+ghost use Rattle.replay.specs.After.{afterCall, callOf, afterCallAt, callEnd, scopeAt};
 use crate::fields;
 use scope::scope::Changed;
 use scope::scope::Listed;
 use scope::scope::Scope;
 use scope::scope::Slot;
 
-// An entry list was read: how many rows it has, and where the next field begins.
-struct List {
-    pub count: usize,
-    pub next: usize,
-}
+// Room for an entry list of a case; none has more.
+const MAX_ROWS: usize = 64;
+
+const MAX_CELLS: usize = 1024;
 
 // A call was made: the scope after it, and where the next field begins.
 struct Called {
@@ -26,28 +27,39 @@ struct Called {
 }
 
 // The start or the length of a name as a cell; the names of a list have far fewer characters.
-fn cell(n: usize) -> u32 {
+fn cell(n: usize) -> u32
+    ensures { λ r. ⌜ r ≡ spec.cell n ⌝ }
+{
     (n % 65_536) as u32
 }
 
-// Reads an entry list of so many entries, as far as there is room; their names stand one behind the other in the cells.
+// The smaller of the two.
+fn least(n: u32, room: usize) -> usize
+    ensures { λ r. ⌜ r ≡ min n room ⌝ }
+{
+    let n = n as usize;
+    if n < room {
+        return n;
+    }
+    room
+}
+
+// Reads so many entries; their names stand one behind the other in the cells, as far as there is room. Answers where the next field begins.
 fn read_list(
     line: &[u8],
     from: usize,
-    entries: u32,
+    count: usize,
     rows: &mut [[u32; Listed::NUMBERS]],
     cells: &mut [u32],
-) -> List
-    ensures { λ r. ⌜ r .count ≤ length (now (rows .exit)) ⌝ }
+) -> usize
+    requires { ⌜ count ≤ length (now rows) ⌝ }
+    ensures { λ r. ⌜ Lays (now (rows .entry)) 0 (spec.rowsAt count (now (line .entry)) from (length (now (cells .entry))) 0) count (now (rows .exit))
+        × (now (cells .exit) ≡ laid 0 (spec.namesAt count (now (line .entry)) from) (now (cells .entry))) × (r ≡ spec.entriesEnd count (now (line .entry)) from) ⌝ }
 {
     let mut n: usize = 0;
     let mut k: usize = 0;
     let mut at = from;
-    let mut left = entries;
-    while 0 < left {
-        if rows.len() <= n {
-            return List { count: n, next: at };
-        }
+    while n < count {
         let depth = fields::read_decimal(line, at);
         let kind = fields::read_decimal(line, depth.next);
         let name = fields::read_cells(line, kind.next, cells, k);
@@ -55,9 +67,8 @@ fn read_list(
         k = name.end;
         at = name.next;
         n += 1;
-        left -= 1;
     }
-    List { count: n, next: at }
+    at
 }
 
 // 0 push, 1 pop, 2 set_entry_name, 3 set_context, 4 add_parsed_name.
@@ -70,7 +81,8 @@ fn made(
     rows: &[[u32; Listed::NUMBERS]],
     cells: &[u32],
 ) -> Changed
-    ensures { λ r. ⌜ Kept r (now (slots .entry)) (now (slots .exit)) × Kept r (now (names .entry)) (now (names .exit)) × Whole r (now (slots .exit)) (now (names .exit)) ⌝ }
+    ensures { λ r. ⌜ (answerOf r (now (slots .exit)) (now (names .exit)) ≡ onScope (lent s (now (slots .entry)) (now (names .entry))) (callOf call (now (name .entry)) (now (cells .entry)) (now (rows .entry))))
+        × Kept r (now (slots .entry)) (now (slots .exit)) × Kept r (now (names .entry)) (now (names .exit)) × Whole r (now (slots .exit)) (now (names .exit)) ⌝ }
 {
     match call {
         0 => scope_calls::push::push(s, slots, names, rows, cells),
@@ -99,17 +111,20 @@ fn call(
     slots: &mut [[u32; Slot::NUMBERS]],
     names: &mut [[u32; Scope::MAX_NAME]],
 ) -> Called
-    ensures { λ r. ⌜ (isBroken (lent s (now (slots .entry)) (now (names .entry))) ≡ false → isBroken (lent (r .scope) (now (slots .exit)) (now (names .exit))) ≡ false) ⌝ }
+    ensures whole { λ r. ⌜ (isBroken (lent s (now (slots .entry)) (now (names .entry))) ≡ false → isBroken (lent (r .scope) (now (slots .exit)) (now (names .exit))) ≡ false) ⌝ }
+    ensures model { λ r. ⌜ (isBroken (lent s (now (slots .entry)) (now (names .entry))) ≡ false
+        → scopeOf (lent (r .scope) (now (slots .exit)) (now (names .exit))) ≡ afterCallAt (now (line .entry)) from (scopeOf (lent s (now (slots .entry)) (now (names .entry))))) ⌝ }
+    ensures next { λ r. ⌜ r .next ≡ callEnd (now (line .entry)) from ⌝ }
 {
     let mut name = [0u32; Scope::MAX_NAME];
-    let mut rows = [[0u32; Listed::NUMBERS]; 64];
-    let mut cells = [0u32; 1024];
+    let mut rows = [[0u32; Listed::NUMBERS]; MAX_ROWS];
+    let mut cells = [0u32; MAX_CELLS];
     let number = fields::read_decimal(line, from);
     let n = fields::read_cells(line, number.next, &mut name, 0);
     let entries = fields::read_decimal(line, n.next);
-    let l = read_list(line, entries.next, entries.value, &mut rows, &mut cells);
+    let count = least(entries.value, MAX_ROWS);
+    let next = read_list(line, entries.next, count, &mut rows, &mut cells);
     let end = n.end;
-    let count = l.count;
     let r = made(
         number.value,
         s,
@@ -121,19 +136,21 @@ fn call(
     );
     Called {
         scope: after(r, s),
-        next: l.next,
+        next,
     }
 }
 
-// A fresh scope after the calls that a case gives: whatever they are, it is not broken.
+// A fresh scope after the calls that a case gives: it is the model's, and whatever they are, it is not broken.
 pub fn scope_of(
     line: &[u8],
     from: usize,
     slots: &mut [[u32; Slot::NUMBERS]],
     names: &mut [[u32; Scope::MAX_NAME]],
 ) -> Scope
-    ensures { λ r. ⌜ (maxEntries + maxParsed ≤ length (now (slots .entry)) → maxEntries + maxParsed ≤ length (now (names .entry))
+    ensures whole { λ r. ⌜ (maxEntries + maxParsed ≤ length (now (slots .entry)) → maxEntries + maxParsed ≤ length (now (names .entry))
         → isBroken (lent r (now (slots .exit)) (now (names .exit))) ≡ false) ⌝ }
+    ensures model { λ r. ⌜ (maxEntries + maxParsed ≤ length (now (slots .entry)) → maxEntries + maxParsed ≤ length (now (names .entry))
+        → scopeOf (lent r (now (slots .exit)) (now (names .exit))) ≡ scopeAt (now (line .entry)) from) ⌝ }
 {
     let count = fields::read_decimal(line, from);
     let mut s = Scope::opened();

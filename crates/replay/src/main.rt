@@ -1,7 +1,9 @@
 // Replays the stored cases: reads them on standard input, one a line, and prints each with the record that the proved run gives.
 // oracle/README.md has the text form; the files `stdin` and `stdout` are the oracle's, so the lines are compared with the Rust's.
+ghost use mathlib.Core.Path.{_≡_};
 ghost use Prim.Native.Nat.{_≤_};
 ghost use lib.ListN.{length};
+ghost use Rattle.replay.specs.Printed.{lineEnd};
 
 mod calls; // calls.rt: a scope from its calls
 mod fields; // fields.rt: numbers and texts from their fields
@@ -61,7 +63,7 @@ fn print_case(line: &[u8]) {
 // The place of the next line end, or where the input ends.
 fn line_end(bytes: &[u8], from: usize) -> usize
     requires { ⌜ from ≤ length (now bytes) ⌝ }
-    ensures { λ r. ⌜ (from ≤ r) × (r ≤ length (now (bytes .entry))) ⌝ }
+    ensures { λ r. ⌜ r ≡ lineEnd (now (bytes .entry)) from ⌝ }
 {
     let mut i = from;
     while i < bytes.len() {

@@ -1,6 +1,8 @@
 // A record printed in the text form, behind its case: how the Rust's run ended, the rows, the value store.
-ghost use Prim.Native.Nat.{_+_, _<_, _≤_};
+ghost use mathlib.Core.Path.{_≡_};
+ghost use Prim.Native.Nat.{_<_};
 ghost use lib.ListN.{length};
+ghost use Rattle.replay.specs.Printed as spec;
 use runs::item::Item;
 use text::refusal::Refusal;
 
@@ -9,7 +11,9 @@ fn wide(n: u32) -> usize {
 }
 
 // 1 where the Rust panicked in the last item, which 01 refuses with 7 or 8.
-fn panicked(last: [u32; Item::NUMBERS]) -> usize {
+fn panicked(last: [u32; Item::NUMBERS]) -> usize
+    ensures { λ r. ⌜ r ≡ spec.panicked last ⌝ }
+{
     if last[Item::REFUSED] == 0 {
         return 0;
     }
@@ -30,7 +34,7 @@ fn rows(all: &[[u32; Item::NUMBERS]]) {
 // How many cells from a place on are alike.
 fn alike(cells: &[u32], from: usize) -> usize
     requires { ⌜ from < length (now cells) ⌝ }
-    ensures { λ r. ⌜ from + r ≤ length (now (cells .entry)) ⌝ }
+    ensures { λ r. ⌜ r ≡ spec.alike (now (cells .entry)) from ⌝ }
 {
     let c = cells[from];
     let mut i = from;
@@ -46,7 +50,7 @@ fn alike(cells: &[u32], from: usize) -> usize
 // Four or more cells that are alike are one code point and their number; answers how many cells were printed.
 fn piece(cells: &[u32], i: usize) -> usize
     requires { ⌜ i < length (now cells) ⌝ }
-    ensures { λ r. ⌜ (0 < r) × (i + r ≤ length (now (cells .entry))) ⌝ }
+    ensures { λ r. ⌜ r ≡ spec.pieceAt (now (cells .entry)) i ⌝ }
 {
     let n = alike(cells, i);
     say::hexadecimal(cells[i]);

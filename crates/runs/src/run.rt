@@ -114,7 +114,7 @@ fn read_items(
     ensures { λ r. ⌜ Stands (readToken (isName (scopeOf (lent s (now (slots .entry)) (now (names .entry)))))) «start_type» (flagsOf flags) (now (text .entry)) (now (rows .entry)) (now (store .entry)) r (now (rows .exit)) (now (store .exit))
         × (r .ended ≡ true) × (now (scratch .exit) ≡ now (scratch .entry)) ⌝ }
 {
-    let cap = scope::longest::longest_key(s, slots, names);
+    let cap = search::longest::longest_key(s, slots, names);
     let mut at = put_start(start_type, flags, rows);
     while !at.ended {
         at = read_item(text, at, s, slots, names, cap, rows, store, scratch);

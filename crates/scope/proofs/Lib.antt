@@ -7,8 +7,4 @@ pub mod BrokenLaws
 pub mod MarkLaws
 pub mod ParsedLaws
 pub mod SoundLaws
-pub mod TextLaws
-pub mod KeyLaws
-pub mod LongestLaws
-pub mod WidthLaws
 pub mod ListLaws

@@ -1,14 +1,19 @@
 -- What a scope that is not broken is known to have, and the check's clauses in order.
 use mathlib.Core.Path.{_≡_, sym, _∙_}
-use mathlib.Core.Bool.{Bool, true, false, _||_}
+use mathlib.Core.Bool.{Bool, true, false, _||_, not}
+use mathlib.Core.List.{List}
 use Prim.Native.Nat.{ℕ, _+_, _<_, _≤_}
 use lib.Dec.{ltb}
 use lib.ListN.{length, drop}
 use borrow.Author.Tests.{lt-ltb, le-ltb, ltb-false}
 use Rattle.reading.proofs.Test.{or-left, or-right}
-use Rattle.scope.specs.Limits.{maxContexts, maxEntries, maxParsed}
-use Rattle.scope.specs.Broken.{isBrokenList, anyRepeated, isBrokenSet, anyMisplaced}
+use Rattle.scope.specs.Limits.{maxContexts, maxEntries, maxParsed, maxName}
+use Rattle.scope.specs.Broken.{allScalar, isBrokenName, isBrokenList, anyRepeated, isBrokenSet, anyMisplaced}
 use Rattle.scope.specs.Lent.{Lent, scopeOf, anyTooLong, isBroken}
+
+pub short-name : (n : List ℕ) → isBrokenName n ≡ false → length n ≤ maxName
+unfolding isBrokenName
+short-name n h = ltb-false maxName (length n) (or-left (ltb maxName (length n)) (not (allScalar n)) h)
 
 -- The counts and the rows.
 module _ (c e p s n : ℕ) where

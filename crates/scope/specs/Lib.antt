@@ -8,7 +8,5 @@ pub mod Calls
 pub mod Lent
 pub mod Mark
 pub mod Rows
-pub mod Longest
 pub mod Answers
-pub mod Rests
 pub mod Listing

@@ -3,5 +3,3 @@
 pub mod compare; // compare.rt: names, cell by cell
 pub mod scope; // scope.rt: the counts of a scope, its limits, a call's answer
 pub mod broken; // broken.rt: the check that every call lent a scope makes
-pub mod keys; // keys.rt: whether a text is a name of the scope
-pub mod longest; // longest.rt: a length that no name of the scope exceeds

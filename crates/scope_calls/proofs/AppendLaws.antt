@@ -23,10 +23,9 @@ use Rattle.scope.specs.Listing.{isBrokenTo, anyBrokenTo, stays, cutAfter, keep,
 use Rattle.scope_calls.specs.Written.{Appended}
 use Rattle.scope.specs.Answers.{lent}
 use Rattle.scope.proofs.HeldLaws.{held-length}
-use Rattle.scope.proofs.SoundLaws.{sound}
+use Rattle.scope.proofs.SoundLaws.{sound, short-name}
 use Rattle.scope_calls.proofs.UnbrokenLaws.{push-list-leaves}
 use Rattle.scope_calls.proofs.WholeLaws.{whole, fits-written}
-use Rattle.scope.proofs.LongestLaws.{short-name}
 use Rattle.scope_calls.proofs.WrittenLaws.{appended-none, appended-more, behind}
 use Rattle.scope.proofs.ListLaws.{settled-end, settled-step}
 

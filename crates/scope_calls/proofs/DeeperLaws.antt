@@ -13,9 +13,9 @@ use Rattle.scope.specs.Entries.{Entry, contextKind}
 use Rattle.scope.specs.Settled.{isRepeated, settledFrom, settled}
 use Rattle.scope.specs.Broken.{isBrokenName, hasParent, isBrokenEntry, anyBroken, isBrokenList}
 use Rattle.scope.specs.Calls.{deeper}
-use Rattle.scope.specs.Lent.{listed}
 use Rattle.scope.specs.Listing.{isBrokenTo, anyBrokenTo, raised}
-use Rattle.scope_calls.proofs.SettlesLaws.{AllIn, AllBelow}
+use Rattle.lists.proofs.OneContext.{AllIn}
+use Rattle.scope_calls.proofs.SettlesLaws.{AllBelow}
 
 -- Tests of numbers, both one more.
 eqb-suc : (a b : ℕ) → eqb (suc a) (suc b) ≡ eqb a b
@@ -30,10 +30,6 @@ ltb-suc a b = by-order a b (λ l. lt-ltb (suc a) (suc b) (omega arith) ∙ sym (
 
 leb-suc : (a b : ℕ) → leb (suc a) (suc b) ≡ leb a b
 leb-suc a b = by-order b a (λ l. lt-leb (suc a) (suc b) (omega arith) ∙ sym (lt-leb a b l)) (λ l. le-leb (suc a) (suc b) (omega arith) ∙ sym (le-leb a b l))
-
-pub listed-in : (k : ℕ) (cs : List ℕ) (rs : List (List ℕ)) → AllIn k (listed k cs rs)
-listed-in k cs [] = tt
-listed-in k cs (r ∷ rs) = (refl, listed-in k cs rs)
 
 pub deeper-below : (c : ℕ) (es : List Entry) → AllIn c es → AllBelow c (map deeper es)
 deeper-below c [] h = tt

@@ -6,7 +6,5 @@ pub mod SettlesLaws
 pub mod NamingLaws
 pub mod NameCallLaws
 pub mod DeeperLaws
-pub mod ParentLaws
-pub mod FirstLaws
 pub mod UnbrokenLaws
 pub mod WholeLaws

@@ -20,10 +20,11 @@ use Rattle.scope_calls.specs.Naming.{without, Moved}
 use Rattle.scope.specs.Answers.{lent}
 use Rattle.scope.proofs.HeldLaws.{held-length}
 use Rattle.scope.proofs.SoundLaws.{sound}
+use Rattle.lists.proofs.OneContext.{listed-in}
 use Rattle.scope_calls.proofs.UnbrokenLaws.{Unbroken, Leaves}
 use Rattle.scope_calls.proofs.WholeLaws.{whole, fits-written}
 use Rattle.scope_calls.proofs.SettlesLaws.{AllBelow, top-in, top-distinct, settles}
-use Rattle.scope_calls.proofs.DeeperLaws.{listed-in, list-below, deeper-raised, settled-below}
+use Rattle.scope_calls.proofs.DeeperLaws.{list-below, deeper-raised, settled-below}
 use Rattle.scope_calls.proofs.AppendLaws.{map-length}
 use Rattle.scope_calls.proofs.NamingLaws.{moved-appended}
 

@@ -14,15 +14,12 @@ use Rattle.scope.specs.Settled.{isRepeated, settledFrom, settled}
 use Rattle.scope.specs.Broken.{anyRepeated, anyMisplaced}
 use Rattle.scope.specs.Calls.{top}
 use Rattle.scope.specs.Listing.{stays, cutAfter, keep}
+use Rattle.lists.proofs.OneContext.{AllIn}
 use Rattle.scope_calls.specs.Naming.{staysBeside, without}
 use Rattle.scope.proofs.SearchLaws.{or-none}
 use Rattle.scope.proofs.ListLaws.{settled-parts}
 
--- All are of one context; all are of it and deeper than 0.
-abbrev pub AllIn : ℕ → List Entry → Type 0
-AllIn c [] = Unit {0}
-AllIn c (e ∷ es) = (e .context ≡ c) × AllIn c es
-
+-- All are of one context and deeper than 0.
 abbrev pub AllBelow : ℕ → List Entry → Type 0
 AllBelow c [] = Unit {0}
 AllBelow c (e ∷ es) = (e .context ≡ c) × (0 < e .depth) × AllBelow c es

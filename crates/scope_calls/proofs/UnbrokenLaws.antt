@@ -16,8 +16,8 @@ use Rattle.scope.specs.Broken.{isBrokenName, hasParent, isBrokenEntry, anyBroke
 use Rattle.scope.specs.Calls.{Changed, changed, refused, under, top, limited, push, pop, added, entry, deeper, setEntryName, setContext, addParsedName}
 use Rattle.scope.specs.Lent.{listed, anyOutside, pushList, setContextList}
 use Rattle.names.proofs.SameLaws.{same-sym}
-use Rattle.scope_calls.proofs.SettlesLaws.{AllIn, top-in}
-use Rattle.scope_calls.proofs.DeeperLaws.{listed-in}
+use Rattle.lists.proofs.OneContext.{AllIn, listed-in}
+use Rattle.scope_calls.proofs.SettlesLaws.{top-in}
 
 -- All are of contexts below n.
 abbrev pub AllUnder : ℕ → List Entry → Type 0

@@ -1,4 +1,2 @@
 pub mod Written
 pub mod Naming
-pub mod Parented
-pub mod Firsts

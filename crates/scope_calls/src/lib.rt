@@ -3,6 +3,5 @@
 pub mod write; // write.rt: one entry written to a row
 pub mod stack; // stack.rt: contexts pushed and popped
 pub mod parsed; // parsed.rt: the set of parsed names
-pub mod list; // list.rt: a lent entry list
 pub mod push; // push.rt: an entry list pushed
 pub mod naming; // naming.rt: an entry named in the last context

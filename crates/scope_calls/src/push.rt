@@ -10,8 +10,8 @@ ghost use Rattle.scope.specs.Lent.{spanned, listed, anyOutside, onScope, pushLi
 ghost use Rattle.scope.specs.Listing.{anyBrokenTo, keep, raised};
 ghost use Rattle.scope_calls.specs.Written.{Appended};
 ghost use Rattle.scope.specs.Answers.{lent, answerOf, Kept, Whole};
-use crate::list;
 use crate::write;
+use lists::list;
 use scope::broken;
 use scope::compare;
 use scope::scope::Changed;

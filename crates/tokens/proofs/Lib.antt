@@ -1,4 +1,3 @@
-pub mod KeywordLaws
 pub mod TokenLaws
 pub mod CallLaws
 pub mod Setter

@@ -35,14 +35,14 @@ use Rattle.lexer.specs.Token.{fuel, withFlags, otherCases, behindWords, cases, 
 use Rattle.lexer.specs.Shown.{windowOf}
 use Rattle.lexer.specs.Numerals.{Numbered, digitsOf}
 use Rattle.lexer.specs.Pieces.{Inside, Written, textOf, textEnd, textReach}
-use Rattle.tokens.specs.Keywords.{valueOf, Matched, Says, reachOf}
+use Rattle.words.specs.Keywords.{valueOf, Matched, Says, reachOf}
 use Rattle.lexer.specs.FlagsOf.{flagsOf}
 use Rattle.lexer.specs.Taken.{Gives, Takes, Taken}
 use Rattle.lexer.specs.declared.number.Number.{Number}
 use Rattle.lexer.specs.declared.string.Literal.{Literal}
 use Rattle.lexer.specs.declared.string.Literal.the-variants.{Chars as StringChars, LineEnds, TextEnds, Broken}
-use Rattle.tokens.specs.declared.keywords.Match.{Match}
-use Rattle.tokens.specs.declared.keywords.Match.the-variants.{Found, None}
+use Rattle.words.specs.declared.keywords.Match.{Match}
+use Rattle.words.specs.declared.keywords.Match.the-variants.{Found, None}
 use Rattle.lexer.specs.declared.flags.Flags.{Flags as CodeFlags}
 use Rattle.lexer.specs.declared.token.Outcome.{Outcome}
 use Rattle.lexer.specs.declared.token.Read.{Read as Answer}

@@ -221,7 +221,7 @@ fn step(
             },
         };
     }
-    let cap = scope::longest::longest_key(s, slots, names);
+    let cap = search::longest::longest_key(s, slots, names);
     let o = crate::token::read_token(&text[p..], f, s, slots, names, cap, out, scratch);
     let read = o.read;
     let used = o.used;

@@ -21,11 +21,10 @@ ghost use Rattle.lexer.specs.Text.{readString};
 ghost use Rattle.lexer.specs.Window.{shown, afterWord};
 ghost use Rattle.lexer.specs.Token.{fuel, withFlags, otherCases, behindWords, cases};
 ghost use Rattle.lexer.specs.Shown.{windowOf};
-ghost use Rattle.tokens.specs.Keywords.{valueOf};
+ghost use Rattle.words.specs.Keywords.{valueOf};
 ghost use Rattle.lexer.specs.FlagsOf.{flagsOf};
 ghost use Rattle.lexer.specs.Fit.{Clear, Searchable};
 ghost use Rattle.lexer.specs.Taken.{Gives, Takes, Taken};
-use crate::keywords::Match;
 use lexer::flags::Flags;
 use lexer::string::Literal;
 use lexer::token::Outcome;
@@ -35,6 +34,8 @@ use lexer::window;
 use scope::scope::Scope;
 use scope::scope::Slot;
 use text::chars::Char;
+use words::keywords;
+use words::keywords::Match;
 
 // A token without a value.
 fn plain(kind: u32, used: usize, flags: Flags, reach: usize) -> Outcome
@@ -52,8 +53,8 @@ fn plain(kind: u32, used: usize, flags: Flags, reach: usize) -> Outcome
 fn of_row(kind: u32, value: u32, used: usize, flags: Flags, reach: usize) -> Outcome
     ensures { λ r. ⌜ ((o : List ℕ) → Gives (spec.outcome (spec.token kind (valueOf value)) used (afterWord kind (flagsOf flags))) reach o r o) ⌝ }
 {
-    let after = crate::keywords::after_word(kind, flags);
-    if crate::keywords::FALSE == value {
+    let after = keywords::after_word(kind, flags);
+    if keywords::FALSE == value {
         return Outcome {
             read: Read::Boolean(false),
             used,
@@ -61,7 +62,7 @@ fn of_row(kind: u32, value: u32, used: usize, flags: Flags, reach: usize) -> Out
             reach,
         };
     }
-    if crate::keywords::TRUE == value {
+    if keywords::TRUE == value {
         return Outcome {
             read: Read::Boolean(true),
             used,
@@ -214,7 +215,7 @@ fn behind_words(
     if Char::QUOTE == c {
         return string_at(rest, i, q, flags, out);
     }
-    let m = crate::keywords::first_symbol(rest, i, c, flags, q);
+    let m = keywords::first_symbol(rest, i, c, flags, q);
     match m {
         Match::Found(kind, value, end, reach) => of_row(kind, value, end, flags, reach),
         Match::None(reach) => other_cases(
@@ -250,7 +251,7 @@ fn by_window(
         × (now (scratch .exit) ≡ now (scratch .entry)) ⌝ }
 {
     let c = window::shown_at(rest, i);
-    let m = crate::keywords::first_word(rest, i, c, flags);
+    let m = keywords::first_word(rest, i, c, flags);
     match m {
         Match::Found(kind, value, end, reach) => of_row(kind, value, end, flags, reach),
         Match::None(reach) => behind_words(

@@ -2,6 +2,7 @@
 use native.Mathlib.Omega.{arith}
 use Prim.Native.Nat.{_-_, _≤_}
 use lib.ListN.{length}
+use Rattle.replay.proofs.PrintedLaws.{line-within}
 use Rattle.replay.proofs.print_cases.Statement.{statement}
 use Rattle.replay.proofs.print_cases.Tie as tie
 use Rattle.replay.proofs.print_cases.Reads as reads
@@ -22,13 +23,13 @@ line-end-requires : tie.Need-line-end-requires Inv-loop μ-loop
 line-end-requires c κs = omega arith
 
 sub-print-case : tie.Need-sub-print-case Inv-loop μ-loop
-sub-print-case c = omega arith
+sub-print-case c = omega (arith, line-within (c .before .before .before .before .args .bytes .now) (c .before .before .loop .from) (omega arith))
 
 part-print-case-start : tie.Need-part-print-case-start Inv-loop μ-loop
-part-print-case-start c = omega arith
+part-print-case-start c = omega (arith, line-within (c .before .before .before .before .args .bytes .now) (c .before .before .loop .from) (omega arith))
 
 part-print-case-end : tie.Need-part-print-case-end Inv-loop μ-loop
-part-print-case-end c = omega arith
+part-print-case-end c = omega (arith, line-within (c .before .before .before .before .args .bytes .now) (c .before .before .loop .from) (omega arith))
 
 print-case-requires : tie.Need-print-case-requires Inv-loop μ-loop
 print-case-requires c κs = tt
@@ -37,13 +38,13 @@ returns : tie.Need-returns Inv-loop μ-loop
 returns c = tt
 
 add-from : tie.Need-add-from Inv-loop μ-loop
-add-from c = omega arith
+add-from c = omega (arith, line-within (c .before .before .before .before .before .before .before .args .bytes .now) (c .before .before .before .before .before .loop .from) (omega arith))
 
 loop-less : tie.Need-loop-less Inv-loop μ-loop
-loop-less c = omega arith
+loop-less c = omega (arith, line-within (c .before .before .before .before .before .before .before .args .bytes .now) (c .before .before .before .before .before .loop .from) (omega arith))
 
 loop-again : tie.Need-loop-again Inv-loop μ-loop
-loop-again c = omega arith
+loop-again c = omega (arith, line-within (c .before .before .before .before .before .before .before .args .bytes .now) (c .before .before .before .before .before .loop .from) (omega arith))
 
 returns-2 : tie.Need-returns-2 Inv-loop μ-loop
 returns-2 c = tt

@@ -5,7 +5,7 @@ use Rattle.feel_lexer.proofs.function_names.feel_is_built_in_function_n
 use Rattle.feel_lexer.proofs.function_names.feel_is_built_in_function_name.Tie as tie
 use Rattle.feel_lexer.proofs.function_names.feel_is_built_in_function_name.Reads as reads
 use Rattle.feel_lexer.proofs.function_names.feel_is_built_in_function_name.Lts as lts
-use Rattle.names.proofs.functions.is_built_in_function_name.Reads as is-built-in-function-name-reads
+use Rattle.functions.proofs.functions.is_built_in_function_name.Reads as is-built-in-function-name-reads
 
 is-built-in-function-name-requires : tie.Need-is-built-in-function-name-requires
 is-built-in-function-name-requires c κs = search needs

@@ -3,7 +3,6 @@ use Prim.Native.Nat.{_-_}
 use lib.ListN.{length}
 use Rattle.lexer.proofs.SkipLaws.{Closing, closing-none, closing-more, closing-found, closing-end}
 use native.Mathlib.Omega.{arith}
-use borrow.Author.Needs.{needs}
 use Rattle.lexer.proofs.skip.block_end.Statement.{statement}
 use Rattle.lexer.proofs.skip.block_end.Tie as tie
 use Rattle.lexer.proofs.skip.block_end.Reads as reads

@@ -6,7 +6,7 @@ use Rattle.limits.proofs.scope_limits.has.Tie as tie
 use Rattle.limits.proofs.scope_limits.has.Reads as reads
 use Rattle.limits.proofs.scope_limits.has.Lts as lts
 use Rattle.scope.proofs.broken.is_broken.Reads as is-broken-reads
-use Rattle.scope.proofs.keys.is_name.Reads as is-name-reads
+use Rattle.search.proofs.keys.is_name.Reads as is-name-reads
 
 is-broken-requires : tie.Need-is-broken-requires
 is-broken-requires c κs = search needs

@@ -7,7 +7,7 @@ use Rattle.naming.proofs.prefix.find.Tie as tie
 use Rattle.naming.proofs.prefix.find.Reads as reads
 use Rattle.naming.proofs.prefix.find.Lts as lts
 use Rattle.names.proofs.fixed.is_built_in_property_name.Reads as is-built-in-property-name-reads
-use Rattle.scope.proofs.keys.is_name.Reads as is-name-reads
+use Rattle.search.proofs.keys.is_name.Reads as is-name-reads
 
 is-name-requires : tie.Need-is-name-requires
 is-name-requires c κs = search needs

@@ -21,7 +21,7 @@ use Rattle.repair.proofs.repair.read_to_match.Lts as lts
 use Rattle.repair.proofs.repair.is_match.Reads as is-match-reads
 use Rattle.repair.proofs.repair.pass_old.Reads as pass-old-reads
 use Rattle.repair.proofs.repair.read_fresh.Reads as read-fresh-reads
-use Rattle.scope.proofs.longest.longest_key.Reads as longest-key-reads
+use Rattle.search.proofs.longest.longest_key.Reads as longest-key-reads
 
 abbrev Inv-loop : tie.InvT-loop
 Inv-loop part base e old-rows s slots names rows₀ store₀ scratch₀ cap at₀ j₀ rows store scratch at j =

@@ -1,13 +1,18 @@
--- A lent front is as long as its end says; the call made leaves a scope that is not broken.
+-- A lent front is as long as its end says; the call made is the one that the fields give, and leaves a scope that is not broken.
 use native.Mathlib.Omega.{arith}
+use mathlib.Core.Path.{refl, ap, _∙_}
 use lib.ListN.{length-take}
+use Rattle.scope.specs.Lent.{onScope}
+use Rattle.replay.specs.After.{callAt}
+use Rattle.replay.proofs.AfterLaws.{still-whole, after-model}
+use Rattle.replay.proofs.CallLaws.{call-read}
 use borrow.Author.Needs.{needs}
-use Rattle.replay.proofs.AfterLaws.{still-whole}
 use Rattle.replay.proofs.calls.call.Statement.{statement}
 use Rattle.replay.proofs.calls.call.Tie as tie
 use Rattle.replay.proofs.calls.call.Reads as reads
 use Rattle.replay.proofs.calls.call.Lts as lts
 use Rattle.replay.proofs.calls.after.Reads as after-reads
+use Rattle.replay.proofs.calls.least.Reads as least-reads
 use Rattle.replay.proofs.calls.made.Reads as made-reads
 use Rattle.replay.proofs.calls.read_list.Reads as read-list-reads
 use Rattle.replay.proofs.fields.read_cells.Reads as read-cells-reads
@@ -24,6 +29,9 @@ read-cells-requires c κs = search needs
 
 read-decimal-requires-2 : tie.Need-read-decimal-requires-2
 read-decimal-requires-2 c κs = search needs
+
+least-requires : tie.Need-least-requires
+least-requires c κs = search needs
 
 slice-aggregate-read-list : tie.Need-slice-aggregate-read-list
 slice-aggregate-read-list c = search needs
@@ -62,7 +70,18 @@ same-length-2 : tie.Need-same-length-2
 same-length-2 c = search needs
 
 returns : tie.Need-returns
-returns c = λ h. let m = c .before .before .before .made in rw (c .after .ensures) (still-whole (m .result) _ _ _ _ _ (m .ensures .0) (m .ensures .1) (m .ensures .2) h)
+returns c =
+    let k = c .before .before .before .before .before .before .before .before .before .before .before in
+    let x = k .before .before .before .before .before .before .before .before .before .before .args in
+    let m = c .before .before .before .made in
+    let a = m .ensures in
+    let q = call-read (x .line .now) (x .from) (k .before .before .before .before .before .before .before .before .read-decimal .ensures) (k .before .before .before .before .before .before .read-cells .ensures) (k .before .before .before .before .read-decimal2 .ensures) (k .before .before .before .least .ensures) _ (k .read-list .ensures) refl refl refl in (
+      λ h. rw (c .after .ensures) (still-whole (m .result) _ _ _ _ _ (a .1) (a .2) (a .3) h),
+      (
+        λ h. rw (c .after .ensures) (after-model (m .result) (x .s) _ _ _ _ (callAt (x .line .now) (x .from)) (a .1) (a .2) (a .0 ∙ ap (onScope _) (q .0)) h),
+        q .1,
+      ),
+    )
 
 pub call-spec : {M : Type 1} → statement M
 call-spec =
@@ -72,6 +91,7 @@ call-spec =
     slice-aggregate-read-cells
     read-cells-requires
     read-decimal-requires-2
+    least-requires
     slice-aggregate-read-list
     slice-aggregate-read-list-2
     read-list-requires

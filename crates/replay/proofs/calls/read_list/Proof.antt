@@ -1,8 +1,7 @@
--- What is left falls; the slices stay as long.
+-- Each turn reads one entry: a row, and the cells of its name.
 use native.Mathlib.Omega.{arith}
-use Prim.Native.Nat.{_≤_}
-use lib.ListN.{length, length-set}
-use mathlib.Core.Path.{_≡_}
+use Prim.Native.Nat.{_-_}
+use Rattle.replay.proofs.EntryLaws.{Listing, listing-none, listing-read, listing-end}
 use Rattle.replay.proofs.calls.read_list.Statement.{statement}
 use Rattle.replay.proofs.calls.read_list.Tie as tie
 use Rattle.replay.proofs.calls.read_list.Reads as reads
@@ -12,22 +11,13 @@ use Rattle.replay.proofs.fields.read_cells.Reads as read-cells-reads
 use Rattle.replay.proofs.fields.read_decimal.Reads as read-decimal-reads
 
 abbrev Inv-loop : tie.InvT-loop
-Inv-loop line from entries rows₀ cells₀ n₀ k₀ at₀ left₀ rows cells n k at left = (n ≤ length rows) × (k ≤ length cells) × (length rows ≡ length rows₀) × (length cells ≡ length cells₀)
+Inv-loop line from count rows₀ cells₀ n₀ k₀ at₀ rows cells n k at = Listing line from count rows₀ cells₀ rows cells n k at
 
 abbrev μ-loop : tie.MeasureT-loop
-μ-loop line from entries rows₀ cells₀ n₀ k₀ at₀ left₀ rows cells n k at left = left
+μ-loop line from count rows₀ cells₀ n₀ k₀ at₀ rows cells n k at = count - n
 
 loop-holds : tie.Need-loop-holds Inv-loop μ-loop
-loop-holds c = omega arith
-
-same-length : tie.Need-same-length Inv-loop μ-loop
-same-length c = omega arith
-
-same-length-2 : tie.Need-same-length-2 Inv-loop μ-loop
-same-length-2 c = omega arith
-
-returns : tie.Need-returns Inv-loop μ-loop
-returns c = omega arith
+loop-holds c = listing-none
 
 read-decimal-requires : tie.Need-read-decimal-requires Inv-loop μ-loop
 read-decimal-requires c κs = tt
@@ -36,43 +26,40 @@ read-decimal-requires-2 : tie.Need-read-decimal-requires-2 Inv-loop μ-loop
 read-decimal-requires-2 c κs = tt
 
 read-cells-requires : tie.Need-read-cells-requires Inv-loop μ-loop
-read-cells-requires c κs = omega arith
+read-cells-requires c κs = omega (arith, c .before .before .before .before .loop .inv .named .fits)
 
 cell-requires : tie.Need-cell-requires Inv-loop μ-loop
 cell-requires c κs = tt
 
 sub-cell : tie.Need-sub-cell Inv-loop μ-loop
-sub-cell c = omega arith
+sub-cell c = omega (arith, c .before .before .before .before .before .before .before .before .before .loop .inv .named .fits)
 
 cell-requires-2 : tie.Need-cell-requires-2 Inv-loop μ-loop
 cell-requires-2 c κs = tt
 
-mul-t20 : tie.Need-mul-t20 Inv-loop μ-loop
-mul-t20 c = omega arith
+mul-t19 : tie.Need-mul-t19 Inv-loop μ-loop
+mul-t19 c = omega arith
 
 slice-set-from-rows : tie.Need-slice-set-from-rows Inv-loop μ-loop
-slice-set-from-rows c = omega arith
+slice-set-from-rows c = omega (arith, c .before .before .before .before .before .before .before .before .before .before .loop .inv .rowed .same)
 
 add-n : tie.Need-add-n Inv-loop μ-loop
 add-n c = omega arith
-
-sub-left : tie.Need-sub-left Inv-loop μ-loop
-sub-left c = omega arith
 
 loop-less : tie.Need-loop-less Inv-loop μ-loop
 loop-less c = omega arith
 
 loop-again : tie.Need-loop-again Inv-loop μ-loop
-loop-again c = simp length-set (omega arith)
+loop-again c = listing-read (c .before .before .before .before .before .before .before .before .before .before .loop .inv) (omega arith) (omega (arith, c .before .before .before .before .before .before .before .before .before .before .loop .inv .rowed .same)) (c .before .before .before .before .before .before .before .before .read-decimal .ensures) (c .before .before .before .before .before .before .before .read-decimal2 .ensures) (c .before .before .before .before .before .read-cells .ensures) (c .before .before .cell .ensures) (c .cell2 .ensures)
 
-same-length-3 : tie.Need-same-length-3 Inv-loop μ-loop
-same-length-3 c = omega arith
+same-length : tie.Need-same-length Inv-loop μ-loop
+same-length c = c .before .loop .inv .rowed .same
 
-same-length-4 : tie.Need-same-length-4 Inv-loop μ-loop
-same-length-4 c = omega arith
+same-length-2 : tie.Need-same-length-2 Inv-loop μ-loop
+same-length-2 c = c .before .loop .inv .named .same
 
-returns-2 : tie.Need-returns-2 Inv-loop μ-loop
-returns-2 c = omega arith
+returns : tie.Need-returns Inv-loop μ-loop
+returns c = listing-end (c .before .loop .inv) (omega arith)
 
 pub read-list-spec : {M : Type 1} → statement M
 read-list-spec =
@@ -81,21 +68,17 @@ read-list-spec =
     Inv-loop
     μ-loop
     loop-holds
-    same-length
-    same-length-2
-    returns
     read-decimal-requires
     read-decimal-requires-2
     read-cells-requires
     cell-requires
     sub-cell
     cell-requires-2
-    mul-t20
+    mul-t19
     slice-set-from-rows
     add-n
-    sub-left
     loop-less
     loop-again
-    same-length-3
-    same-length-4
-    returns-2)
+    same-length
+    same-length-2
+    returns)

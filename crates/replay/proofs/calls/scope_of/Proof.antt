@@ -1,12 +1,14 @@
--- What is left falls; the rows stay as many, and each call leaves a scope that is not broken.
+-- What is left falls; the rows stay as many, and each call leaves a scope that is not broken and is the model's.
 use native.Mathlib.Omega.{arith}
 use lib.ListN.{length}
 use Prim.Native.Nat.{_+_, _≤_}
 use mathlib.Core.Bool.{false}
+use mathlib.Core.Path.{_≡_, refl, sym, _∙_}
 use Rattle.scope.specs.Limits.{maxEntries, maxParsed}
-use Rattle.scope.specs.Lent.{isBroken}
+use Rattle.scope.specs.Lent.{isBroken, scopeOf}
 use Rattle.scope.specs.Answers.{lent}
-use mathlib.Core.Path.{_≡_, refl}
+use Rattle.replay.specs.After.{afterCalls, scopeAt}
+use Rattle.replay.proofs.AfterLaws.{calls-more, calls-over}
 use Rattle.replay.proofs.calls.scope_of.Statement.{statement}
 use Rattle.replay.proofs.calls.scope_of.Tie as tie
 use Rattle.replay.proofs.calls.scope_of.Reads as reads
@@ -16,7 +18,7 @@ use Rattle.replay.proofs.fields.read_decimal.Reads as read-decimal-read
 use Rattle.scope.proofs.scope.Scope.opened.Reads as opened-reads
 
 abbrev Inv-loop : tie.InvT-loop
-Inv-loop line from slots₀ names₀ s₀ at₀ left₀ slots names s at left = (length slots ≡ length slots₀) × (length names ≡ length names₀) × (maxEntries + maxParsed ≤ length slots₀ → maxEntries + maxParsed ≤ length names₀ → isBroken (lent s slots names) ≡ false)
+Inv-loop line from slots₀ names₀ s₀ at₀ left₀ slots names s at left = (length slots ≡ length slots₀) × (length names ≡ length names₀) × (maxEntries + maxParsed ≤ length slots₀ → maxEntries + maxParsed ≤ length names₀ → (isBroken (lent s slots names) ≡ false) × (scopeAt line from ≡ afterCalls left line at (scopeOf (lent s slots names))))
 
 abbrev μ-loop : tie.MeasureT-loop
 μ-loop line from slots₀ names₀ s₀ at₀ left₀ slots names s at left = left
@@ -28,7 +30,7 @@ opened-requires : tie.Need-opened-requires Inv-loop μ-loop
 opened-requires c κs = tt
 
 loop-holds : tie.Need-loop-holds Inv-loop μ-loop
-loop-holds c = (refl, refl, λ h g. c .opened .ensures .1 _ _ h g)
+loop-holds c = (refl, refl, λ h g. (c .opened .ensures .1 _ _ h g, rw (c .before .read-decimal .ensures .0, c .before .read-decimal .ensures .1, c .opened .ensures .0 (c .before .before .before .args .slots .now) (c .before .before .before .args .names .now))))
 
 call-requires : tie.Need-call-requires Inv-loop μ-loop
 call-requires c κs = tt
@@ -40,7 +42,11 @@ loop-less : tie.Need-loop-less Inv-loop μ-loop
 loop-less c = omega arith
 
 loop-again : tie.Need-loop-again Inv-loop μ-loop
-loop-again c = (omega arith, omega arith, λ h g. c .before .before .before .call .ensures (c .before .before .before .before .before .before .before .loop .inv .2 h g))
+loop-again c = (
+  omega arith,
+  omega arith,
+  λ h g. (c .before .before .before .call .ensures .0 (c .before .before .before .before .before .before .before .loop .inv .2 h g .0), c .before .before .before .before .before .before .before .loop .inv .2 h g .1 ∙ calls-more _ _ _ _ (omega arith) (c .before .before .before .call .ensures .1 .1) (c .before .before .before .call .ensures .1 .0 (c .before .before .before .before .before .before .before .loop .inv .2 h g .0))),
+)
 
 same-length : tie.Need-same-length Inv-loop μ-loop
 same-length c = omega arith
@@ -49,7 +55,7 @@ same-length-2 : tie.Need-same-length-2 Inv-loop μ-loop
 same-length-2 c = omega arith
 
 returns : tie.Need-returns Inv-loop μ-loop
-returns c = c .before .loop .inv .2
+returns c = (λ h g. c .before .loop .inv .2 h g .0, λ h g. sym (c .before .loop .inv .2 h g .1 ∙ calls-over _ _ _ _ (omega arith)))
 
 pub scope-of-spec : {M : Type 1} → statement M
 scope-of-spec =

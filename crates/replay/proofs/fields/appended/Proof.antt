@@ -1,6 +1,7 @@
 -- A number that is cut leaves room for one digit more.
 use native.Mathlib.Omega.{arith}
-use Rattle.replay.proofs.FieldLaws.{cut-fits, cut-same}
+use mathlib.Core.Path.{refl}
+use Rattle.replay.proofs.FieldLaws.{cut-fits}
 use Rattle.replay.proofs.fields.appended.Statement.{statement}
 use Rattle.replay.proofs.fields.appended.Tie as tie
 use Rattle.replay.proofs.fields.appended.Reads as reads
@@ -13,7 +14,7 @@ add-result : tie.Need-add-result
 add-result c = omega (arith, cut-fits (c .args .n) (c .args .base) (omega arith))
 
 returns : tie.Need-returns
-returns c = cut-same _ _ _
+returns c = refl
 
 pub appended-spec : {M : Type 1} → statement M
 appended-spec =

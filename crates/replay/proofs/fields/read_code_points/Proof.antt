@@ -1,63 +1,54 @@
--- Each turn goes at least one byte on; the output stays as long.
+-- Each turn reads one code point and passes a comma.
 use native.Mathlib.Omega.{arith}
-use Prim.Native.Nat.{_-_, _≤_}
+use mathlib.Core.Path.{sym, _∙_}
+use Prim.Native.Nat.{_-_}
+use lib.Dec.{eqb}
 use lib.ListN.{length}
-use mathlib.Core.Path.{_≡_}
+use borrow.Author.Tests.{not-true, not-false}
+use Rattle.reading.proofs.Cell.{cell-there}
+use Rattle.replay.proofs.PointLaws.{Reading, reading-none, reading-more, reading-last, reading-end, point-up}
 use Rattle.replay.proofs.fields.read_code_points.Statement.{statement}
 use Rattle.replay.proofs.fields.read_code_points.Tie as tie
 use Rattle.replay.proofs.fields.read_code_points.Reads as reads
 use Rattle.replay.proofs.fields.read_code_points.Lts as lts
-use Rattle.replay.proofs.fields.fill.Reads as fill-reads
-use Rattle.replay.proofs.fields.read_number.Reads as read-number-reads
-use Rattle.replay.proofs.fields.read_times.Reads as read-times-reads
+use Rattle.replay.proofs.fields.is.Reads as is-reads
+use Rattle.replay.proofs.fields.read_code_point.Reads as read-code-point-reads
 
 abbrev Inv-loop : tie.InvT-loop
-Inv-loop line from out₀ start k₀ i₀ out k i = (start ≤ k) × (k ≤ length out) × (length out ≡ length out₀)
+Inv-loop line from out₀ start k₀ i₀ out k i = Reading line out₀ from start out k i
 
 abbrev μ-loop : tie.MeasureT-loop
 μ-loop line from out₀ start k₀ i₀ out k i = length line - i
 
 loop-holds : tie.Need-loop-holds Inv-loop μ-loop
-loop-holds c = omega arith
+loop-holds c = reading-none (omega arith)
 
-read-number-requires : tie.Need-read-number-requires Inv-loop μ-loop
-read-number-requires c κs = omega arith
+read-code-point-requires : tie.Need-read-code-point-requires Inv-loop μ-loop
+read-code-point-requires c κs = omega (arith, c .before .before .loop .inv .cells .fits)
 
-read-times-requires : tie.Need-read-times-requires Inv-loop μ-loop
-read-times-requires c κs = tt
-
-fill-requires : tie.Need-fill-requires Inv-loop μ-loop
-fill-requires c κs = omega arith
+is-requires : tie.Need-is-requires Inv-loop μ-loop
+is-requires c κs = tt
 
 same-length : tie.Need-same-length Inv-loop μ-loop
-same-length c = omega arith
+same-length c = omega (arith, c .before .before .before .before .before .before .before .loop .inv .cells .same)
 
 returns : tie.Need-returns Inv-loop μ-loop
-returns c = omega arith
-
-shared-slice-read-if2 : tie.Need-shared-slice-read-if2 Inv-loop μ-loop
-shared-slice-read-if2 c = omega arith
-
-same-length-2 : tie.Need-same-length-2 Inv-loop μ-loop
-same-length-2 c = omega arith
-
-returns-2 : tie.Need-returns-2 Inv-loop μ-loop
-returns-2 c = omega arith
+returns c = reading-last (c .before .before .before .before .before .before .before .loop .inv) (omega arith) (c .before .before .before .before .read-code-point .ensures) (sym (c .before .is .ensures) ∙ not-true _ (c .if1 .taken))
 
 add-i : tie.Need-add-i Inv-loop μ-loop
-add-i c = omega arith
+add-i c = omega (arith, cell-there (eqb _) _ _ (sym (c .before .before .is .ensures) ∙ not-false _ (c .before .if1 .left)))
 
 loop-less : tie.Need-loop-less Inv-loop μ-loop
-loop-less c = omega arith
+loop-less c = omega (arith, point-up (c .before .before .before .before .before .before .before .before .before .before .before .args .line .now) (c .before .before .before .before .before .before .before .before .loop .i), c .before .before .before .before .before .read-code-point .ensures .1)
 
 loop-again : tie.Need-loop-again Inv-loop μ-loop
-loop-again c = omega arith
+loop-again c = reading-more (c .before .before .before .before .before .before .before .before .loop .inv) (omega arith) (c .before .before .before .before .before .read-code-point .ensures) (sym (c .before .before .is .ensures) ∙ not-false _ (c .before .if1 .left))
 
-same-length-3 : tie.Need-same-length-3 Inv-loop μ-loop
-same-length-3 c = omega arith
+same-length-2 : tie.Need-same-length-2 Inv-loop μ-loop
+same-length-2 c = c .before .loop .inv .cells .same
 
-returns-3 : tie.Need-returns-3 Inv-loop μ-loop
-returns-3 c = omega arith
+returns-2 : tie.Need-returns-2 Inv-loop μ-loop
+returns-2 c = reading-end (c .before .loop .inv) (omega arith)
 
 pub read-code-points-spec : {M : Type 1} → statement M
 read-code-points-spec =
@@ -66,16 +57,12 @@ read-code-points-spec =
     Inv-loop
     μ-loop
     loop-holds
-    read-number-requires
-    read-times-requires
-    fill-requires
+    read-code-point-requires
+    is-requires
     same-length
     returns
-    shared-slice-read-if2
-    same-length-2
-    returns-2
     add-i
     loop-less
     loop-again
-    same-length-3
-    returns-3)
+    same-length-2
+    returns-2)

@@ -16,7 +16,7 @@ next-field-requires : tie.Need-next-field-requires
 next-field-requires c κs = tt
 
 returns : tie.Need-returns
-returns c = (c .next-field .ensures ∙ ap (nextField _) (c .before .read-number .ensures .1), c .before .read-number .ensures .2)
+returns c = (c .before .read-number .ensures .0, c .next-field .ensures ∙ ap (nextField _) (c .before .read-number .ensures .1))
 
 pub read-decimal-spec : {M : Type 1} → statement M
 read-decimal-spec =

@@ -44,7 +44,7 @@ loop-less : tie.Need-loop-less Inv-loop μ-loop
 loop-less c = omega arith
 
 loop-again : tie.Need-loop-again Inv-loop μ-loop
-loop-again c = digits-next (c .before .before .before .before .before .before .loop .inv) (omega arith) (omega arith) (c .before .before .hex-to-decimal .ensures ∙ ap digitValue (c .before .before .before .wide .ensures)) (omega arith) (c .appended .ensures)
+loop-again c = digits-next (c .before .before .before .before .before .before .loop .inv) (omega arith) (c .before .before .hex-to-decimal .ensures ∙ ap digitValue (c .before .before .before .wide .ensures)) (omega arith) (c .appended .ensures)
 
 returns-2 : tie.Need-returns-2 Inv-loop μ-loop
 returns-2 c = digits-stop (c .before .loop .inv) (digits-end _ _ _ _ (omega arith))

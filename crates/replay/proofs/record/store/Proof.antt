@@ -2,6 +2,7 @@
 use native.Mathlib.Omega.{arith}
 use Prim.Native.Nat.{_-_, _≤_}
 use lib.ListN.{length}
+use Rattle.replay.proofs.PrintedLaws.{piece-within}
 use Rattle.replay.proofs.record.store.Statement.{statement}
 use Rattle.replay.proofs.record.store.Tie as tie
 use Rattle.replay.proofs.record.store.Reads as reads
@@ -40,13 +41,13 @@ piece-requires : tie.Need-piece-requires Inv-loop μ-loop
 piece-requires c κs = omega arith
 
 add-i : tie.Need-add-i Inv-loop μ-loop
-add-i c = omega arith
+add-i c = omega (arith, piece-within (c .before .before .before .before .before .before .before .before .args .cells .now) (c .before .before .before .loop .i) (omega arith))
 
 loop-less : tie.Need-loop-less Inv-loop μ-loop
-loop-less c = omega arith
+loop-less c = omega (arith, piece-within (c .before .before .before .before .before .before .before .before .args .cells .now) (c .before .before .before .loop .i) (omega arith))
 
 loop-again : tie.Need-loop-again Inv-loop μ-loop
-loop-again c = omega arith
+loop-again c = omega (arith, piece-within (c .before .before .before .before .before .before .before .before .args .cells .now) (c .before .before .before .loop .i) (omega arith))
 
 slice-aggregate-words-4 : tie.Need-slice-aggregate-words-4 Inv-loop μ-loop
 slice-aggregate-words-4 c = omega arith

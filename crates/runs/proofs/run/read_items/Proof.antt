@@ -17,7 +17,7 @@ use Rattle.runs.proofs.run.read_items.Reads as reads
 use Rattle.runs.proofs.run.read_items.Lts as lts
 use Rattle.runs.proofs.run.put_start.Reads as put-start-reads
 use Rattle.runs.proofs.run.read_item.Reads as read-item-reads
-use Rattle.scope.proofs.longest.longest_key.Reads as longest-key-reads
+use Rattle.search.proofs.longest.longest_key.Reads as longest-key-reads
 
 abbrev Inv-loop : tie.InvT-loop
 Inv-loop text start-type s slots names rows₀ store₀ scratch₀ cap at₀ rows store scratch at = Onward (readToken (isName (scopeOf (lent s slots names)))) text at₀ rows₀ store₀ at rows store × (scratch ≡ scratch₀)

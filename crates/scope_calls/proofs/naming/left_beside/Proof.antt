@@ -12,8 +12,8 @@ use Rattle.scope_calls.proofs.naming.left_beside.Statement.{statement}
 use Rattle.scope_calls.proofs.naming.left_beside.Tie as tie
 use Rattle.scope_calls.proofs.naming.left_beside.Reads as reads
 use Rattle.scope_calls.proofs.naming.left_beside.Lts as lts
-use Rattle.scope_calls.proofs.list.counted.Reads as counted-reads
-use Rattle.scope_calls.proofs.list.cut_after.Reads as cut-after-reads
+use Rattle.lists.proofs.list.counted.Reads as counted-reads
+use Rattle.lists.proofs.list.cut_after.Reads as cut-after-reads
 use Rattle.scope_calls.proofs.naming.stays_beside.Reads as stays-beside-reads
 
 abbrev Inv-loop : tie.InvT-loop

@@ -7,14 +7,14 @@ use Rattle.scope.specs.Calls.{deeper}
 use Rattle.scope.specs.Lent.{held, listed, setContextList}
 use Rattle.scope_calls.specs.Naming.{without}
 use Rattle.scope.specs.Answers.{lent}
-use Rattle.scope.proofs.SoundLaws.{sound}
-use Rattle.scope.proofs.LongestLaws.{short-name}
+use Rattle.scope.proofs.SoundLaws.{sound, short-name}
 use Rattle.scope_calls.proofs.UnbrokenLaws.{context-list-leaves}
 use Rattle.scope_calls.proofs.StackLaws.{call-broken}
 use Rattle.scope_calls.proofs.AppendLaws.{few}
 use Rattle.scope_calls.proofs.NameCallLaws.{added-empty, added-full, added-done, added-whole, context-outside, context-name, context-broken, context-added, count-below, new-place, context-moved}
 use Rattle.scope.specs.Settled.{settled}
-use Rattle.scope_calls.proofs.DeeperLaws.{listed-in, deeper-below, broken-more}
+use Rattle.lists.proofs.OneContext.{listed-in}
+use Rattle.scope_calls.proofs.DeeperLaws.{deeper-below, broken-more}
 use native.Mathlib.Omega.{arith}
 use borrow.Author.Needs.{needs}
 use Rattle.scope_calls.proofs.naming.set_context.Statement.{statement}
@@ -23,9 +23,9 @@ use Rattle.scope_calls.proofs.naming.set_context.Reads as reads
 use Rattle.scope_calls.proofs.naming.set_context.Lts as lts
 use Rattle.scope.proofs.broken.is_broken.Reads as is-broken-reads
 use Rattle.scope.proofs.broken.is_broken_name.Reads as is-broken-name-reads
-use Rattle.scope_calls.proofs.list.any_broken.Reads as any-broken-reads
-use Rattle.scope_calls.proofs.list.any_outside.Reads as any-outside-reads
-use Rattle.scope_calls.proofs.list.remaining.Reads as remaining-reads
+use Rattle.lists.proofs.list.any_broken.Reads as any-broken-reads
+use Rattle.lists.proofs.list.any_outside.Reads as any-outside-reads
+use Rattle.lists.proofs.list.remaining.Reads as remaining-reads
 use Rattle.scope_calls.proofs.naming.left_beside.Reads as left-beside-reads
 use Rattle.scope_calls.proofs.naming.replace.Reads as replace-reads
 use Rattle.scope_calls.proofs.push.append.Reads as append-reads

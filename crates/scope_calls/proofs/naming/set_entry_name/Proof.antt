@@ -5,8 +5,7 @@ use lib.Seq.{take-length}
 use Rattle.scope.specs.Calls.{setEntryName}
 use Rattle.scope.specs.Answers.{lent}
 use Rattle.scope.specs.Settled.{settledFrom}
-use Rattle.scope.proofs.SoundLaws.{sound}
-use Rattle.scope.proofs.LongestLaws.{short-name}
+use Rattle.scope.proofs.SoundLaws.{sound, short-name}
 use Rattle.scope_calls.proofs.UnbrokenLaws.{entry-leaves}
 use Rattle.scope_calls.proofs.StackLaws.{call-broken}
 use Rattle.scope_calls.proofs.NameCallLaws.{added-empty, added-full, added-done, added-whole, entry-broken, entry-added}

@@ -7,7 +7,7 @@ use Rattle.scope_calls.proofs.naming.take_out.Statement.{statement}
 use Rattle.scope_calls.proofs.naming.take_out.Tie as tie
 use Rattle.scope_calls.proofs.naming.take_out.Reads as reads
 use Rattle.scope_calls.proofs.naming.take_out.Lts as lts
-use Rattle.scope_calls.proofs.list.cut_after.Reads as cut-after-reads
+use Rattle.lists.proofs.list.cut_after.Reads as cut-after-reads
 use Rattle.scope_calls.proofs.naming.move_kept.Reads as move-kept-reads
 use Rattle.scope_calls.proofs.naming.stays_beside.Reads as stays-beside-reads
 

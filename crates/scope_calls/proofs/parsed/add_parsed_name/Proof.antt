@@ -4,8 +4,7 @@ use mathlib.Core.Path.{refl, sym, _∙_}
 use lib.Seq.{take-length}
 use Rattle.scope.specs.Calls.{addParsedName}
 use Rattle.scope.specs.Answers.{lent}
-use Rattle.scope.proofs.SoundLaws.{sound}
-use Rattle.scope.proofs.LongestLaws.{short-name}
+use Rattle.scope.proofs.SoundLaws.{sound, short-name}
 use Rattle.scope_calls.proofs.StackLaws.{call-broken}
 use Rattle.scope_calls.proofs.AddLaws.{add-broken, add-known, add-full, add-new, add-whole}
 use borrow.Author.Needs.{needs}

@@ -9,8 +9,8 @@ use Rattle.scope_calls.proofs.push.append.Statement.{statement}
 use Rattle.scope_calls.proofs.push.append.Tie as tie
 use Rattle.scope_calls.proofs.push.append.Reads as reads
 use Rattle.scope_calls.proofs.push.append.Lts as lts
-use Rattle.scope_calls.proofs.list.cut_after.Reads as cut-after-reads
-use Rattle.scope_calls.proofs.list.stays.Reads as stays-reads
+use Rattle.lists.proofs.list.cut_after.Reads as cut-after-reads
+use Rattle.lists.proofs.list.stays.Reads as stays-reads
 use Rattle.scope_calls.proofs.push.put_kept.Reads as put-kept-reads
 
 abbrev Inv-loop : tie.InvT-loop

@@ -13,9 +13,9 @@ use Rattle.scope_calls.proofs.push.push.Tie as tie
 use Rattle.scope_calls.proofs.push.push.Reads as reads
 use Rattle.scope_calls.proofs.push.push.Lts as lts
 use Rattle.scope.proofs.broken.is_broken.Reads as is-broken-reads
-use Rattle.scope_calls.proofs.list.any_broken.Reads as any-broken-reads
-use Rattle.scope_calls.proofs.list.any_outside.Reads as any-outside-reads
-use Rattle.scope_calls.proofs.list.remaining.Reads as remaining-reads
+use Rattle.lists.proofs.list.any_broken.Reads as any-broken-reads
+use Rattle.lists.proofs.list.any_outside.Reads as any-outside-reads
+use Rattle.lists.proofs.list.remaining.Reads as remaining-reads
 use Rattle.scope_calls.proofs.push.append.Reads as append-reads
 
 is-broken-requires : tie.Need-is-broken-requires

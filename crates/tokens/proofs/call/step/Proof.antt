@@ -10,7 +10,7 @@ use Rattle.tokens.proofs.call.step.Reads as reads
 use Rattle.tokens.proofs.call.step.Lts as lts
 use Rattle.tokens.proofs.call.start_number.Reads as start-number-reads
 use Rattle.tokens.proofs.token.read_token.Reads as read-token-reads
-use Rattle.scope.proofs.longest.longest_key.Reads as longest-key-reads
+use Rattle.search.proofs.longest.longest_key.Reads as longest-key-reads
 
 start-number-requires : tie.Need-start-number-requires
 start-number-requires c κs = search needs

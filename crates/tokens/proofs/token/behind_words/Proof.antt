@@ -13,7 +13,7 @@ use Rattle.tokens.proofs.token.behind_words.Statement.{statement}
 use Rattle.tokens.proofs.token.behind_words.Tie as tie
 use Rattle.tokens.proofs.token.behind_words.Reads as reads
 use Rattle.tokens.proofs.token.behind_words.Lts as lts
-use Rattle.tokens.proofs.keywords.first_symbol.Reads as first-symbol-reads
+use Rattle.words.proofs.keywords.first_symbol.Reads as first-symbol-reads
 use Rattle.tokens.proofs.token.begins_with_point.Reads as begins-with-point-reads
 use Rattle.tokens.proofs.token.number_at.Reads as number-at-reads
 use Rattle.tokens.proofs.token.of_row.Reads as of-row-reads

@@ -9,7 +9,7 @@ use Rattle.tokens.proofs.token.by_window.Tie as tie
 use Rattle.tokens.proofs.token.by_window.Reads as reads
 use Rattle.tokens.proofs.token.by_window.Lts as lts
 use Rattle.lexer.proofs.window.shown_at.Reads as shown-at-reads
-use Rattle.tokens.proofs.keywords.first_word.Reads as first-word-reads
+use Rattle.words.proofs.keywords.first_word.Reads as first-word-reads
 use Rattle.tokens.proofs.token.behind_words.Reads as behind-words-reads
 use Rattle.tokens.proofs.token.of_row.Reads as of-row-reads
 

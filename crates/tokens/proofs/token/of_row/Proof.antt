@@ -7,7 +7,7 @@ use Rattle.tokens.proofs.token.of_row.Statement.{statement}
 use Rattle.tokens.proofs.token.of_row.Tie as tie
 use Rattle.tokens.proofs.token.of_row.Reads as reads
 use Rattle.tokens.proofs.token.of_row.Lts as lts
-use Rattle.tokens.proofs.keywords.after_word.Reads as after-word-reads
+use Rattle.words.proofs.keywords.after_word.Reads as after-word-reads
 use Rattle.tokens.proofs.token.plain.Reads as plain-reads
 
 after-word-requires : tie.Need-after-word-requires

@@ -1,0 +1,2 @@
+pub mod FunctionCases
+pub mod FunctionLaws

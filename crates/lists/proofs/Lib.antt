@@ -1,0 +1,3 @@
+pub mod OneContext
+pub mod ParentLaws
+pub mod FirstLaws

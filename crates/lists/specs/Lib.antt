@@ -1,0 +1,2 @@
+pub mod Parented
+pub mod Firsts

@@ -1,0 +1,4 @@
+pub mod TextLaws
+pub mod KeyLaws
+pub mod LongestLaws
+pub mod WidthLaws
