@@ -1,5 +1,6 @@
 pub mod StoredLaws
 pub mod StoredType
+pub mod PageType
 pub mod Filling
 pub mod Lending
 pub mod Transfer

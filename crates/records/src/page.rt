@@ -1,5 +1,5 @@
 // A short record's items by value, for callers that lend none.
-ghost use Rattle.records.specs.Stored.{storedOf};
+ghost use Rattle.records.specs.Stored.{storedOf, rowFrom};
 ghost use Rattle.records.specs.Items.{Copies, blankPage};
 use crate::items;
 use crate::stored::Stored;
@@ -44,4 +44,13 @@ pub fn page_of(rows: &[[u32; Item::NUMBERS]]) -> Page
     let mut items = [blank; Page::ITEMS];
     let refusal = items::read_items(rows, &mut items);
     Page { refusal, items }
+}
+
+// Writes the items of a page to the front of the rows; too few rows are 9, and all of them stay.
+// Ruled out, among others: a refused call that has written to the rows; the last item left out.
+pub fn rows_of(p: Page, rows: &mut [[u32; Item::NUMBERS]]) -> u32
+    ensures { λ r. ⌜ Copies rowFrom (p .items) (now (rows .entry)) r (now (rows .exit)) ⌝ }
+{
+    let items = p.items;
+    items::write_items(&items, rows)
 }
