@@ -2,6 +2,15 @@
 use scope::scope::Changed;
 use scope::scope::Scope;
 
+// The rest of a line behind its mark and a space.
+pub fn heading(line: &[u8]) {
+    if line.len() < 2 {
+        return;
+    }
+    say::words(&line[2..]);
+    say::words(b"\n");
+}
+
 // What a call answered: the counts after it, or the refusal's number.
 pub fn answer(text: &[u8], r: Changed) {
     say::words(text);

@@ -1,5 +1,1 @@
-pub mod Fields
-pub mod Laid
-pub mod Entries
-pub mod After
 pub mod Printed

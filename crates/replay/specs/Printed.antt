@@ -1,21 +1,13 @@
--- What of a record is printed together, and where a line of the input ends.
-use mathlib.Core.Bool.{Bool, cond, not}
+-- What of a record is printed together.
+use mathlib.Core.Bool.{cond}
 use mathlib.Core.List.{List, [], _∷_}
 use Prim.Native.Nat.{ℕ}
 use lib.Dec.{eqb, ltb}
 use lib.ListN.{getD, drop}
 use Rattle.reading.specs.Cells.{isOneOf}
-use Rattle.reading.specs.Span.{span, past}
+use Rattle.reading.specs.Span.{span}
 use Rattle.text.specs.Refusals.{endAtSecondHalf, startsWithIn}
 use Rattle.runs.specs.Record.{refusedAt, numberAt}
-
--- All bytes but the line end.
-abbrev pub inLine : ℕ → Bool
-inLine c = not (eqb c 0x0a)
-
--- The place of the next line end, or where the input ends.
-abbrev pub lineEnd : List ℕ → ℕ → ℕ
-lineEnd bytes i = past inLine bytes i
 
 -- 1 where the Rust panicked in the last item, which 01 refuses with 7 or 8.
 abbrev pub panicked : List ℕ → ℕ

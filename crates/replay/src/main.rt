@@ -1,14 +1,11 @@
 // Replays the stored cases: reads them on standard input, one a line, and prints each with the record that the proved run gives.
 // oracle/README.md has the text form; the files `stdin` and `stdout` are the oracle's, so the lines are compared with the Rust's.
-ghost use mathlib.Core.Path.{_≡_};
-ghost use Prim.Native.Nat.{_≤_};
-ghost use lib.ListN.{length};
-ghost use Rattle.replay.specs.Printed.{lineEnd};
 
-mod calls; // calls.rt: a scope from its calls
-mod fields; // fields.rt: numbers and texts from their fields
 mod record; // record.rt: a record printed
 
+use cases::calls;
+use cases::fields;
+use cases::lines;
 use runs::call::Made;
 use runs::item;
 use runs::item::Item;
@@ -60,25 +57,10 @@ fn print_case(line: &[u8]) {
     print_run(&text[..n], start_type.value, flags.value, s, &slots, &names);
 }
 
-// The place of the next line end, or where the input ends.
-fn line_end(bytes: &[u8], from: usize) -> usize
-    requires { ⌜ from ≤ length (now bytes) ⌝ }
-    ensures { λ r. ⌜ r ≡ lineEnd (now (bytes .entry)) from ⌝ }
-{
-    let mut i = from;
-    while i < bytes.len() {
-        if bytes[i] == b'\n' {
-            return i;
-        }
-        i += 1;
-    }
-    i
-}
-
 fn print_cases(bytes: &[u8]) {
     let mut from: usize = 0;
     while from < bytes.len() {
-        let end = line_end(bytes, from);
+        let end = lines::line_end(bytes, from);
         print_case(&bytes[from..end]);
         if end == bytes.len() {
             return;

@@ -6,10 +6,10 @@ use Rattle.replay.proofs.print_case.Statement.{statement}
 use Rattle.replay.proofs.print_case.Tie as tie
 use Rattle.replay.proofs.print_case.Reads as reads
 use Rattle.replay.proofs.print_case.Lts as lts
-use Rattle.replay.proofs.calls.scope_of.Reads as scope-of-reads
-use Rattle.replay.proofs.fields.next_field.Reads as next-field-reads
-use Rattle.replay.proofs.fields.read_cells.Reads as read-cells-reads
-use Rattle.replay.proofs.fields.read_decimal.Reads as read-decimal-reads
+use Rattle.cases.proofs.calls.scope_of.Reads as scope-of-reads
+use Rattle.cases.proofs.fields.next_field.Reads as next-field-reads
+use Rattle.cases.proofs.fields.read_cells.Reads as read-cells-reads
+use Rattle.cases.proofs.fields.read_decimal.Reads as read-decimal-reads
 use Rattle.replay.proofs.print_run.Reads as print-run-reads
 use Rattle.say.proofs.words.Reads as words-reads
 

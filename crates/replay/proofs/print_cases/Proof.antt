@@ -2,12 +2,12 @@
 use native.Mathlib.Omega.{arith}
 use Prim.Native.Nat.{_-_, _≤_}
 use lib.ListN.{length}
-use Rattle.replay.proofs.PrintedLaws.{line-within}
+use Rattle.cases.proofs.LineLaws.{line-within}
 use Rattle.replay.proofs.print_cases.Statement.{statement}
 use Rattle.replay.proofs.print_cases.Tie as tie
 use Rattle.replay.proofs.print_cases.Reads as reads
 use Rattle.replay.proofs.print_cases.Lts as lts
-use Rattle.replay.proofs.line_end.Reads as line-end-reads
+use Rattle.cases.proofs.lines.line_end.Reads as line-end-reads
 use Rattle.replay.proofs.print_case.Reads as print-case-reads
 
 abbrev Inv-loop : tie.InvT-loop
