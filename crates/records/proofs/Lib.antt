@@ -6,5 +6,4 @@ pub mod Lending
 pub mod Transfer
 pub mod CopyAll
 pub mod ReadBack
-pub mod ItemsAgree
 pub mod ItemsCases
