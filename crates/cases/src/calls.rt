@@ -19,7 +19,7 @@ const MAX_ROWS: usize = 514;
 const MAX_CELLS: usize = 1024;
 
 // A call was made: its answer, the scope after it, and where the next field begins.
-#[derive(Drop)]
+#[derive(Clone, Copy)]
 pub struct Called {
     pub answer: Changed,
     pub scope: Scope,

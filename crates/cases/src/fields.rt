@@ -6,14 +6,14 @@ ghost use Rattle.cases.specs.Laid.{Lays};
 ghost use Rattle.cases.specs.Fields.{next_field, with_digit, number_at, digits_end, decimal_at, decimal_end, times_at, times_end, code_point, code_point_end, code_points, code_points_end, cells_at, cells_end};
 
 // A number, and where the next field begins.
-#[derive(Drop)]
+#[derive(Clone, Copy)]
 pub struct Number {
     pub value: u32,
     pub next: usize,
 }
 
 // Where the cells of a text end in the output, and where the next field begins.
-#[derive(Drop)]
+#[derive(Clone, Copy)]
 pub struct Cells {
     pub end: usize,
     pub next: usize,

@@ -1,5 +1,7 @@
 // The text form of cases: lines, their fields, and a scope from its calls (oracle/README.md).
 
+#![tactic(auto)]
+
 pub mod lines; // lines.rt: where a line ends
 pub mod fields; // fields.rt: numbers and texts from their fields
 pub mod calls; // calls.rt: a scope from its calls

@@ -5,7 +5,7 @@ ghost use Rattle.feel_lexer.specs.Exported.{Sized};
 
 use text::refusal::Refusal;
 
-#[derive(Drop)]
+#[derive(Clone, Copy)]
 pub struct Answer {}
 
 impl Answer {

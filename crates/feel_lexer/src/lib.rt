@@ -1,5 +1,7 @@
 // What C and Rust link: thin functions of numbers and slices over opening, the scope calls, the token call, run and repair.
 
+#![tactic(auto)]
+
 pub mod version; // version.rt: the version that a program is linked by
 pub mod answer; // answer.rt: the numbers that a call answers with
 pub mod state; // state.rt: scope and lexer as lent numbers

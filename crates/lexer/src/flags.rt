@@ -3,7 +3,7 @@ ghost use Rattle.std.specs.Prelude.{◌≡◌};
 ghost use Rattle.lexer.specs.Flags.{UnaryTests, TypeName, TillIn, AfterDot, clear};
 ghost use Rattle.lexer.specs.FlagsOf.{flags_of};
 
-#[derive(Drop)]
+#[derive(Clone, Copy)]
 pub struct Flags {
     pub unary_tests: bool,
     pub between: bool,

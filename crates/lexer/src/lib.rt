@@ -1,5 +1,7 @@
 // The lexer: from the cells of a text to tokens.
 
+#![tactic(auto)]
+
 pub mod look; // look.rt: one cell and a class
 pub mod skip; // skip.rt: whitespace and comments
 pub mod number; // number.rt: numbers

@@ -11,7 +11,7 @@ ghost use Rattle.lexer.specs.Numerals.{Signed, Exponented, Numbered, digits_of};
 use text::chars::Char;
 
 // Whether the sign is a minus, and the place behind it.
-#[derive(Drop)]
+#[derive(Clone, Copy)]
 pub struct Sign {
     pub minus: bool,
     pub end: usize,
@@ -49,7 +49,7 @@ fn exponent_letter_at(rest: &[u32], i: usize) -> bool
 }
 
 // The exponent's sign, and where its digits begin and end.
-#[derive(Drop)]
+#[derive(Clone, Copy)]
 pub struct Exponent {
     pub minus: bool,
     pub from: usize,
@@ -79,7 +79,7 @@ fn read_exponent(rest: &[u32], i: usize) -> Exponent
 }
 
 // A number's places: its digits before the point end at `before`, those behind it stand from `from` to `after`, those of the exponent from `exponent` to `end`.
-#[derive(Drop)]
+#[derive(Clone, Copy)]
 pub struct Number {
     pub before: usize,
     pub from: usize,

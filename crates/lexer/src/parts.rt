@@ -5,7 +5,7 @@ ghost use Rattle.text.specs.Limits.{max_chars};
 ghost use Rattle.lexer.specs.Places.{here_of, start_of, next_of, Placed, Counted, prefix, spelling};
 
 // At: where a part starts and ends. Over: where the walk ends.
-#[derive(Drop)]
+#[derive(Clone, Copy)]
 pub enum Next {
     At(usize, usize),
     Over(usize),
@@ -51,7 +51,7 @@ pub fn next_part(rest: &[u32], i: usize) -> Next
 }
 
 // How many parts a name has, and where the walk over them ends.
-#[derive(Drop)]
+#[derive(Clone, Copy)]
 pub struct Walked {
     pub parts: usize,
     pub end: usize,

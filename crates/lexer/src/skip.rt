@@ -60,7 +60,7 @@ fn block_end(rest: &[u32], from: usize) -> usize
 }
 
 // The end of a comment, if there is one.
-#[derive(Drop)]
+#[derive(Clone, Copy)]
 pub enum Found {
     Nothing,
     At(usize),

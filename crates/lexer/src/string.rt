@@ -24,7 +24,7 @@ const FIRST_PAIRED: u32 = 0x10000;
 const LAST_SCALAR: u32 = 0x10FFFF;
 
 // The value of hexadecimal digits; or number, carry and place of a refusal.
-#[derive(Drop)]
+#[derive(Clone, Copy)]
 pub enum Hex {
     Value(u32),
     NoDigit(u32, u32, usize),
@@ -55,7 +55,7 @@ fn read_hex(rest: &[u32], from: usize, count: usize) -> Hex
 }
 
 // A character and the place behind it; where the quote, a line's end or the text's end stands; or number, carry, place and reach of a refusal.
-#[derive(Drop)]
+#[derive(Clone, Copy)]
 pub enum Piece {
     Char(u32, usize),
     Quote(usize),
@@ -224,7 +224,7 @@ fn plain_at(rest: &[u32], i: usize) -> bool
 }
 
 // How many characters a string has and where it ends; where a line's end or the text's end broke it off; or number, carry, place and reach of a refusal.
-#[derive(Drop)]
+#[derive(Clone, Copy)]
 pub enum Literal {
     Chars(usize, usize),
     LineEnds(usize),

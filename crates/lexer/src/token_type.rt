@@ -2,7 +2,7 @@
 ghost use Rattle.std.specs.Prelude.{◌≡◌};
 ghost use Rattle.lexer.specs.TokenTypes as spec;
 
-#[derive(Drop)]
+#[derive(Clone, Copy)]
 pub struct TokenType {}
 
 impl TokenType {

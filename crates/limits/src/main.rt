@@ -1,5 +1,7 @@
 // Runs the scope calls at the limits that 01 names: reads them on standard input, one a line, and prints what each answers. The file `stdout` has what 01 says.
 // A line that begins with `=` is a heading, and a new scope follows; one that begins with `?` asks whether a text is a name. Any other is a call in the text form of cases (oracle/README.md), and behind it what the call is printed as; where that is nothing, nothing is printed.
+
+#![tactic(auto)]
 mod answers; // answers.rt: answers printed
 mod lent; // lent.rt: lists and scopes that no case gives
 

@@ -1,3 +1,5 @@
 // A lent entry list: its check, and what is left of it after replacing.
 
+#![tactic(auto)]
+
 pub mod list; // list.rt: the rows of a list

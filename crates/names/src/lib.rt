@@ -1,5 +1,7 @@
 // Names: trimming, joining, flattening and the fixed names.
 
+#![tactic(auto)]
+
 pub mod trim; // trim.rt: white space at the ends
 pub mod flatten; // flatten.rt: the spelling that is looked up
 pub mod name; // name.rt: parts put behind one another

@@ -35,7 +35,7 @@ fn trim_back(buf: &[u32], i: usize, end: usize) -> usize
 }
 
 // A part of a slice.
-#[derive(Drop)]
+#[derive(Clone, Copy)]
 pub struct Span {
     pub from: usize,
     pub end: usize,

@@ -26,7 +26,7 @@ pub fn clear(buf: &mut [u32], n: usize)
 }
 
 // Whether a text is found, and whether as a property.
-#[derive(Drop)]
+#[derive(Clone, Copy)]
 pub struct Finding {
     pub found: bool,
     pub property: bool,
@@ -86,7 +86,7 @@ fn find_parts(
 }
 
 // How many parts the prefix has, 0 if none is found, and whether it is a property.
-#[derive(Drop)]
+#[derive(Clone, Copy)]
 pub struct Prefix {
     pub parts: usize,
     pub property: bool,

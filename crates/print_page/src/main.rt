@@ -1,4 +1,6 @@
 // Reads a rule on standard input and prints its items, which it has as structs on a page, a line each: item, type (R and number if refused), position, reach.
+
+#![tactic(auto)]
 use lexer::flags::Flags;
 use lexer::token_type::TokenType;
 use records::page;

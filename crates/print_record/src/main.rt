@@ -1,5 +1,7 @@
 // The record program: reads a rule on standard input and prints its record, a line an item.
 // What it prints is defined in crates/runs/specs/Print.antt, and `print` is proved to give it; one byte more than is taken tells a longer input.
+
+#![tactic(auto)]
 use printing::print;
 
 fn main() {

@@ -1,5 +1,7 @@
 // The record as text, a line for each item.
 
+#![tactic(auto)]
+
 mod cells; // cells.rt: cells written behind others
 mod number; // number.rt: the digits of a number
 mod value; // value.rt: the value field of an item

@@ -1,1 +1,3 @@
 // What it means to read a text, and how far the reading looked: definitions and laws, no code.
+
+#![tactic(auto)]

@@ -8,7 +8,7 @@ use lexer::flags::Flags;
 use runs::item::Item;
 
 // What `read_items` answers, and the items that it was lent.
-#[derive(Drop)]
+#[derive(Clone, Copy)]
 pub struct Page {
     pub refusal: u32,
     pub items: [Stored; Page::ITEMS],

@@ -7,7 +7,7 @@ use runs::item;
 use runs::item::Item;
 
 // 01: type or refusal, position and flags after, and reach; the value's start and length in the store, a number's three lengths, and a Boolean, a sign or a carry.
-#[derive(Drop)]
+#[derive(Clone, Copy)]
 pub struct Stored {
     pub refused: bool,
     pub number: u32,

@@ -1,5 +1,7 @@
 // Opens Unicode's examples of UTF-8 and texts at their limits, has every public call refuse, and prints what is answered and what the lent slices hold then.
 // The file `stdout` has what 01 says.
+
+#![tactic(auto)]
 mod filled; // filled.rt: whether slices are as before
 mod lent; // lent.rt: what is lent
 mod lexing; // lexing.rt: the token call

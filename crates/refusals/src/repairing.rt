@@ -26,7 +26,7 @@ const SPACED: [[u32; Item::NUMBERS]; 4] = [
 const SPACED_VALUES: [u32; 2] = [0x62, 0x62];
 
 // What a repair is handed: the old length, the edit, and how much of the new text, of rows, store cells and scratch cells is lent.
-#[derive(Drop)]
+#[derive(Clone, Copy)]
 struct Request {
     length: usize,
     from: usize,

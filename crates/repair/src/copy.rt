@@ -11,7 +11,7 @@ use runs::item::Item;
 use runs::{cell, edit};
 
 // So many items and value cells are written.
-#[derive(Drop)]
+#[derive(Clone, Copy)]
 pub struct Place {
     pub items: usize,
     pub cells: usize,

@@ -27,7 +27,7 @@ use scope::scope::{Scope, Slot};
 use text::refusal::Refusal;
 
 // Fresh items are written up to here, and the old rows from `old` on follow.
-#[derive(Drop)]
+#[derive(Clone, Copy)]
 pub struct Matched {
     pub items: usize,
     pub cells: usize,

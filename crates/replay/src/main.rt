@@ -1,6 +1,8 @@
 // Replays the stored cases: reads them on standard input, one a line, and prints each with the record that the proved run gives.
 // oracle/README.md has the text form; the files `stdin` and `stdout` are the oracle's, so the lines are compared with the Rust's.
 
+#![tactic(auto)]
+
 mod record; // record.rt: a record printed
 
 use cases::{calls, fields, lines};

@@ -9,7 +9,7 @@ use text::refusal::Refusal;
 use text::utf8::Text;
 
 // A record's number of rows and of value cells, or the number of a refusal.
-#[derive(Drop)]
+#[derive(Clone, Copy)]
 pub enum Made {
     Record(usize, usize),
     Refused(u32),

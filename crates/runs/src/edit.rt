@@ -5,7 +5,7 @@ ghost use Rattle.runs.specs.Edit as spec;
 ghost use Rattle.runs.specs.Copied.{edit_of};
 
 // The cells from `from` up to `to` give way to `size` others.
-#[derive(Drop)]
+#[derive(Clone, Copy)]
 pub struct Edit {
     pub from: usize,
     pub to: usize,

@@ -13,7 +13,7 @@ use lexer::token::Read;
 use lexer::token_type::TokenType;
 
 // 01: type or refusal, position and flags after, and reach; of the value the length, a number's three lengths, and a Boolean, a sign or a carry.
-#[derive(Drop)]
+#[derive(Clone, Copy)]
 pub struct Item {
     pub is_refusal: bool,
     pub number: u32,

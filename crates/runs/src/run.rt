@@ -20,7 +20,7 @@ use scope::scope::{Scope, Slot};
 use text::refusal::Refusal;
 
 // Where a run stands: behind the last item, with so many items and value cells, and whether that item ended it.
-#[derive(Drop)]
+#[derive(Clone, Copy)]
 pub struct Progress {
     pub position: usize,
     pub flags: Flags,

@@ -1,5 +1,7 @@
 // Words and numbers printed, for the programs. What is written cannot be said in a contract, so these have none.
 
+#![tactic(auto)]
+
 pub fn words(text: &[u8]) {
     io::write_all(1, text);
 }

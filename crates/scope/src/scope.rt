@@ -7,7 +7,7 @@ ghost use Rattle.scope.specs.Lent.{scope_of, is_broken};
 ghost use Rattle.scope.specs.Answers.{lent};
 
 // How many contexts are stacked, and how many entries and parsed names are in use.
-#[derive(Drop)]
+#[derive(Clone, Copy)]
 pub struct Scope {
     pub contexts: usize,
     pub entries: usize,
@@ -50,7 +50,7 @@ impl Scope {
 }
 
 // What an entry is.
-#[derive(Drop)]
+#[derive(Clone, Copy)]
 pub struct Kind {}
 
 impl Kind {
@@ -60,7 +60,7 @@ impl Kind {
 }
 
 // The places in a row of slots. A parsed name uses the last alone.
-#[derive(Drop)]
+#[derive(Clone, Copy)]
 pub struct Slot {}
 
 impl Slot {
@@ -77,7 +77,7 @@ impl Slot {
 }
 
 // The places in a row of an entry list; the name is a span of the cells lent beside it.
-#[derive(Drop)]
+#[derive(Clone, Copy)]
 pub struct Listed {}
 
 impl Listed {
@@ -112,7 +112,7 @@ pub fn numbers() -> [usize; 10]
 }
 
 // What a call answers: the scope after it, or the number of a refusal.
-#[derive(Drop)]
+#[derive(Clone, Copy)]
 pub enum Changed {
     Done(Scope),
     Refused(u32),

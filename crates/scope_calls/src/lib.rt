@@ -1,5 +1,7 @@
 // The scope calls: contexts pushed, popped and named, and the set of parsed names.
 
+#![tactic(auto)]
+
 pub mod write; // write.rt: one entry written to a row
 pub mod stack; // stack.rt: contexts pushed and popped
 pub mod parsed; // parsed.rt: the set of parsed names

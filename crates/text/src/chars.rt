@@ -1,6 +1,6 @@
 // The characters that code asks for by name, one place for all of them.
 
-#[derive(Drop)]
+#[derive(Clone, Copy)]
 pub struct Char {}
 
 impl Char {

@@ -1,5 +1,7 @@
 // Characters and the opening of UTF-8.
 
+#![tactic(auto)]
+
 pub mod chars; // chars.rt: the characters that code asks for by name
 pub mod classes; // classes.rt: the character classes of the grammar
 pub mod hex; // hex.rt: hexadecimal digits

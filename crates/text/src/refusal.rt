@@ -2,7 +2,7 @@
 ghost use Rattle.std.specs.Prelude.{◌≡◌};
 ghost use Rattle.text.specs.Refusals as spec;
 
-#[derive(Drop)]
+#[derive(Clone, Copy)]
 pub struct Refusal {}
 
 impl Refusal {

@@ -8,7 +8,7 @@ ghost use Rattle.text.specs.Opening.{sequence_of, second_low, second_high, count
 use crate::refusal::Refusal;
 
 // An opened text.
-#[derive(Drop)]
+#[derive(Clone, Copy)]
 pub struct Text {
     pub chars: usize,
 }
@@ -28,21 +28,21 @@ pub fn numbers() -> [usize; 2]
 }
 
 // What opening answers: the text, or the number and the place of a refusal.
-#[derive(Drop)]
+#[derive(Clone, Copy)]
 pub enum Opening {
     Opened(Text),
     Refused(u32, usize),
 }
 
 // A character and the length of its sequence, or a sequence that is not well-formed.
-#[derive(Drop)]
+#[derive(Clone, Copy)]
 pub enum Sequence {
     Char(u32, usize),
     Bad,
 }
 
 // How many characters there are, or where the first bad sequence begins.
-#[derive(Drop)]
+#[derive(Clone, Copy)]
 pub enum Count {
     Chars(usize),
     BadAt(usize),

@@ -18,7 +18,7 @@ use text::refusal::Refusal;
 use text::utf8::Text;
 
 // Position, flags, and whether a start token is due, of which type.
-#[derive(Drop)]
+#[derive(Clone, Copy)]
 pub struct Lexer {
     pub position: usize,
     pub flags: Flags,
@@ -140,7 +140,7 @@ impl Lexer {
 }
 
 // What a token call gives: what was read, its place, and the state to go on from.
-#[derive(Drop)]
+#[derive(Clone, Copy)]
 pub struct Called {
     pub read: Read,
     pub place: usize,

@@ -198,7 +198,7 @@ fn follower_at(rest: &[u32], j: usize, follow: u32) -> bool
 }
 
 // Whether a row fits, and the reach then.
-#[derive(Drop)]
+#[derive(Clone, Copy)]
 pub struct Tried {
     pub hit: bool,
     pub reach: usize,
@@ -282,7 +282,7 @@ fn try_row(
 }
 
 // Found: type, value (by its number above), end and reach of the word. None: the reach.
-#[derive(Drop)]
+#[derive(Clone, Copy)]
 pub enum Match {
     Found(u32, u32, usize, usize),
     None(usize),

@@ -1,0 +1,14 @@
+-- The table in code and the definition's cover each other, by computation.
+use mathlib.Core.Path.{refl}
+use Rattle.text.specs.Ranges.{rises}
+use Rattle.text.specs.Classes.{vertical_spaces, is_vertical_space}
+use Rattle.text.proofs.RangeLaws.{covered, all_covered, same_class}
+use Rattle.text.proofs.classes.is_vertical_space.Goals as goal
+
+pub in_ranges-requires : goal.in_ranges-requires
+unfolding rises
+in_ranges-requires c = refl
+
+pub returns : goal.returns
+unfolding is_vertical_space covered all_covered
+returns c = same_class c.in_ranges.ensures vertical_spaces refl refl
