@@ -6,14 +6,8 @@ use borrow.Author.Tests.{le-ltb}
 use Rattle.scope.specs.Limits.{max_entries, max_parsed}
 use Rattle.scope.specs.Broken.{any_misplaced, any_broken, any_repeated, is_broken_set}
 use Rattle.scope.specs.Lent.{held, any_too_long, is_broken}
-use Rattle.scope.proofs.scope.Scope.opened.Statement.{statement}
-use Rattle.scope.proofs.scope.Scope.opened.Tie as tie
-use Rattle.scope.proofs.scope.Scope.opened.Reads as reads
-use Rattle.scope.proofs.scope.Scope.opened.Lts as lts
+use Rattle.scope.proofs.scope.Scope.opened.Goals as goal
 
-returns : tie.Need-returns
+pub returns : goal.returns
 unfolding held is_broken any_too_long any_misplaced any_broken any_repeated is_broken_set
 returns c = (λ ss ns. refl, λ ss ns h j. rw (le-ltb (length ss) (max_entries + max_parsed) h, le-ltb (length ns) (max_entries + max_parsed) j))
-
-pub opened-spec : {M : Type 1} → statement M
-opened-spec = tie.close (tie.spec returns)
