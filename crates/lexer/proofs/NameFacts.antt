@@ -116,7 +116,7 @@ at-end lo hi tight from p (q ∷ ps) h =
 ends-take : (lo hi : ℕ) (tight : Bool) (from m : ℕ) (ps : List Part) → Ends lo hi tight from ps → Ends lo hi tight from (take m ps)
 ends-take lo hi tight from zero ps h = tt
 ends-take lo hi tight from (suc m) [] h = tt
-ends-take lo hi tight from (suc m) (p ∷ ps) h = (h.0, h.1, h.2, ends-take lo hi _ _ m ps h.3)
+ends-take lo hi tight from (suc m) (p ∷ ps) h = (h.0, h.1, h.2, ends-take lo hi (is_symbol_text (trim p.cells)) p.end m ps h.3)
 
 abbrev EndsIf : ℕ → ℕ → Bool → ℕ → Option (List Part) → Type 0
 EndsIf lo hi tight from none = Unit
@@ -130,7 +130,7 @@ ends_with lo hi tight from p (some qs) x y z g = (x, y, z, g)
 ends-before_in : (lo hi : ℕ) (tight : Bool) (from : ℕ) (ps : List Part) → Ends lo hi tight from ps → EndsIf lo hi tight from (before_in ps)
 ends-before_in lo hi tight from [] h = tt
 ends-before_in lo hi tight from (p ∷ ps) h = by_test (EndsIf lo hi tight from) (same p.cells (codes "in")) (λ _. tt)
-    (λ _. ends_with lo hi tight from p (before_in ps) h.0 h.1 h.2 (ends-before_in lo hi _ _ ps h.3))
+    (λ _. ends_with lo hi tight from p (before_in ps) h.0 h.1 h.2 (ends-before_in lo hi (is_symbol_text (trim p.cells)) p.end ps h.3))
 
 -- A name of some parts, read up to its last one, or to hi.
 module _ (n lo hi from : ℕ) (within : hi ≤ n) where

@@ -53,19 +53,19 @@ module _ (t : List ℕ) (gathering : ℕ) (small : length t < gathering) where
       let v = walk_on w in
       let g = rw (holds_in is_name_part t i l ∙ a) at (rw (cell_in t i l) at (asks (begins t 0 (walk gathering (suc f) i)) (i + 1) (omega arith))) in
       let k = takes (sees_gather d gathering (omega arith)) _ g (j + 1) (omega arith) in
-      finds (takes (walked w f (omega arith)) _ k (e + 1) (omega arith))
+      finds (takes (walked {i = j} w f (omega arith)) _ k (e + 1) (omega arith))
   walked {i} {e} (symbol a b w) (suc f) h =
       let l = cell_there is_symbol t i b in
       let v = walk_on w in
       let g = rw (holds_in is_name_part t i l ∙ a, holds_in is_symbol t i l ∙ b) at (rw (cell_in t i l) at (asks (begins t 0 (walk gathering (suc f) i)) (i + 1) (omega arith))) in
-      rw (part-one t i l) (finds (takes (walked w f (omega arith)) _ g (e + 1) (omega arith)))
+      rw (part-one t i l) (finds (takes (walked {i = i + 1} w f (omega arith)) _ g (e + 1) (omega arith)))
   walked {i} {e} (space {j = j} a b c d w) (suc f) h =
       let l = cell_there is_whitespace t i c in
       let u = passed_more d c in
       let v = walk_on w in
       let g = rw (holds_in is_name_part t i l ∙ a, holds_in is_symbol t i l ∙ b, holds_in is_whitespace t i l ∙ c) at (rw (cell_in t i l) at (asks (begins t 0 (walk gathering (suc f) i)) (i + 1) (omega arith))) in
       let k = takes (sees_gather d gathering (omega arith)) _ g (j + 1) (omega arith) in
-      sees_from k (walked w f (omega arith)) (e + 1) (omega arith)
+      sees_from k (walked {i = j} w f (omega arith)) (e + 1) (omega arith)
 
 -- What the next part does to a walk from behind it.
 abbrev Step : List ℕ → ℕ → Next → Type 0

@@ -20,7 +20,7 @@ add_part-k-requires c = let k = c in
     let g = e.loop-m.invariant in
     let l = spelling_on g e.next_part-p.ensures d.in-At.is in
     let s = e in
-    (omega arith, omega arith, spelling-room g e.next_part-p.ensures (omega arith) s.requires.1 d.in-At.is k.trim-t.ensures c.is_Tied.ensures)
+    (omega arith, omega arith, spelling-room g e.next_part-p.ensures (omega arith) s.requires.1 d.in-At.is k.trim-t.ensures c.is_tied-c.ensures)
 
 pub ends_tight-tight-requires : goal.ends_tight-tight-requires
 ends_tight-tight-requires c = let d = c in
@@ -39,7 +39,7 @@ loop-m-preserved c = let a = c in
     let d = k in
     let e = d in
     let s = e in
-    spelling_more e.loop-m.invariant e.next_part-p.ensures (omega arith) s.requires.1 d.in-At.is k.trim-t.ensures a.is_Tied.ensures a.add_part-k.ensures c.ends_tight-tight.ensures
+    spelling_more e.loop-m.invariant e.next_part-p.ensures (omega arith) s.requires.1 d.in-At.is k.trim-t.ensures a.is_tied-c.ensures a.add_part-k.ensures c.ends_tight-tight.ensures
 
 pub shape_of-out : goal.shape_of-out
 shape_of-out c = c.loop-m.invariant.same

@@ -2,10 +2,10 @@
 use Rattle.lexer.proofs.StringLaws.{walking_none, walking_more, walking_on, walking_ended, walking_undef, walking_over, walking_refused}
 use Prim.Native.Nat.{◌-◌, ◌<◌, ◌≤◌}
 use mathlib.Core.Path.{refl}
-use mathlib.Core.Logic.{⊎_elim}
 use lib.ListN.{length}
 use native.Mathlib.Omega.{arith}
 use Rattle.lexer.proofs.string.read_string.Goals as goal
+use Rattle.lexer.proofs.string.read_string.Goals.{then-plain_at, else-plain_at+in-Char}
 
 pub loop-i-init : goal.loop-i-init
 loop-i-init c = walking_none _ _ (omega arith) (omega arith)
@@ -32,11 +32,15 @@ pub loop-i-smaller : goal.loop-i-smaller
 loop-i-smaller c =
     let k = c.loop-i.invariant in
     let l : (c.loop-i.i < c.if-plain_at.i) × (c.if-plain_at.i ≤ length c.args.rest.now) =
-    ⊎_elim (λ w. rw w.1 (walking_on k (c.plain_at.ensures w.0.taken).piece refl)) (λ w. rw w.5 (walking_on k w.1.ensures w.3.given.1)) c.if-plain_at.branch
+    elim c.if-plain_at.branch
+      [ then-plain_at w ↦ rw w.i-is (walking_on k (c.plain_at.ensures w.if-plain_at.true).piece refl)
+      | else-plain_at+in-Char w ↦ rw w.i-is (walking_on k w.read_piece-p.ensures w.in-Char.is) ]
     in
     omega arith
 
 pub loop-i-preserved : goal.loop-i-preserved
 loop-i-preserved c =
     let k = c.loop-i.invariant in
-    ⊎_elim (λ w. rw w.1 (walking_more k (c.plain_at.ensures w.0.taken).piece refl)) (λ w. rw w.5 (walking_more k w.1.ensures w.3.given.1)) c.if-plain_at.branch
+    elim c.if-plain_at.branch
+      [ then-plain_at w ↦ rw w.i-is (walking_more k (c.plain_at.ensures w.if-plain_at.true).piece refl)
+      | else-plain_at+in-Char w ↦ rw w.i-is (walking_more k w.read_piece-p.ensures w.in-Char.is) ]

@@ -2,10 +2,10 @@
 use Rattle.lexer.proofs.StringLaws.{walking_on, walking_undef, walking_over, walking_refused, writing_none, writing_more, writing_ended, writing_none_ended}
 use mathlib.Core.Path.{refl}
 use Prim.Native.Nat.{◌-◌, ◌<◌, ◌≤◌}
-use mathlib.Core.Logic.{⊎_elim}
 use lib.ListN.{length}
 use native.Mathlib.Omega.{arith}
 use Rattle.lexer.proofs.string.write_string.Goals as goal
+use Rattle.lexer.proofs.string.write_string.Goals.{then-plain_at, else-plain_at+in-Char}
 
 pub loop-out-init : goal.loop-out-init
 loop-out-init c = writing_none _ _ _ (omega arith) (omega arith)
@@ -56,11 +56,15 @@ pub loop-out-smaller : goal.loop-out-smaller
 loop-out-smaller c =
     let k = c.loop-out.invariant.walk in
     let l : (c.loop-out.i < c.if-plain_at.i) × (c.if-plain_at.i ≤ length c.args.rest.now) =
-    ⊎_elim (λ w. rw w.3 (walking_on k (c.plain_at.ensures w.0.taken).piece refl)) (λ w. rw w.6 (walking_on k w.1.ensures w.3.given.1)) c.if-plain_at.branch
+    elim c.if-plain_at.branch
+      [ then-plain_at w ↦ rw w.i-is (walking_on k (c.plain_at.ensures w.if-plain_at.true).piece refl)
+      | else-plain_at+in-Char w ↦ rw w.i-is (walking_on k w.read_piece-p.ensures w.in-Char.is) ]
     in
     omega arith
 
 pub loop-out-preserved : goal.loop-out-preserved
 loop-out-preserved c =
     let k = c.loop-out.invariant in
-    ⊎_elim (λ w. rw (w.2, w.3) (writing_more k (c.plain_at.ensures w.0.taken).piece (omega arith) refl)) (λ w. rw (w.5, w.6) (writing_more k w.1.ensures (omega arith) w.3.given.1)) c.if-plain_at.branch
+    elim c.if-plain_at.branch
+      [ then-plain_at w ↦ rw (w.out-is, w.i-is) (writing_more k (c.plain_at.ensures w.if-plain_at.true).piece (omega arith) refl)
+      | else-plain_at+in-Char w ↦ rw (w.out-is, w.i-is) (writing_more k w.read_piece-p.ensures (omega arith) w.in-Char.is) ]
