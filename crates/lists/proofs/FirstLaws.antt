@@ -70,7 +70,10 @@ unfolding is_repeated
 search_alike g e [] c h = refl
 search_alike g e (f ∷ fs) c h =
     let p = both (eqb e.depth g.depth) (same e.name g.name) h in
-    rw (search_alike g e fs c h, c, eqb-true e.depth g.depth p.0, same_equal e.name g.name p.1)
+    let q = search_alike g e fs c h in
+    let d = eqb-true e.depth g.depth p.0 in
+    let n = same_equal e.name g.name p.1 in
+    cc
 
 -- How many of w are alike to g; those of w that are not alike to e.
 abbrev times : Entry → List Entry → ℕ

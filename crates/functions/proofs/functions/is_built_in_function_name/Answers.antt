@@ -73,6 +73,4 @@ returns-in-25 c = by_length 25 function_names c.is_among-in-25.ensures c.in-25.i
 pub returns-in_default : goal.returns-in_default
 unfolding function_names
 returns-in_default c =
-    let r = c.in-2.rest in
-    no_length (2 ∷ 3 ∷ 4 ∷ 5 ∷ 6 ∷ 7 ∷ 8 ∷ 9 ∷ 10 ∷ 11 ∷ 12 ∷ 13 ∷ 14 ∷ 15 ∷ 16 ∷ 25 ∷ []) _ function_names refl
-    (rw (other r.0.0.0.0.0.0.0.0.0.0.0.0.0.0.0.1, other r.0.0.0.0.0.0.0.0.0.0.0.0.0.0.1, other r.0.0.0.0.0.0.0.0.0.0.0.0.0.1, other r.0.0.0.0.0.0.0.0.0.0.0.0.1, other r.0.0.0.0.0.0.0.0.0.0.0.1, other r.0.0.0.0.0.0.0.0.0.0.1, other r.0.0.0.0.0.0.0.0.0.1, other r.0.0.0.0.0.0.0.0.1, other r.0.0.0.0.0.0.0.1, other r.0.0.0.0.0.0.1, other r.0.0.0.0.0.1, other r.0.0.0.0.1, other r.0.0.0.1, other r.0.0.1, other r.0.1, other r.1))
+    ?
