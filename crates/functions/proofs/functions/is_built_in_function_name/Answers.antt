@@ -4,6 +4,8 @@ use mathlib.Core.List.{[], ◌∷◌}
 use Rattle.functions.specs.Functions.{function_names, listed}
 use Rattle.reading.proofs.Test.{other}
 use Rattle.functions.proofs.FunctionLaws.{of_length, by_length, no_length}
+use lib.ListN.{length}
+use native.Mathlib.Omega.{arith}
 use Rattle.functions.proofs.functions.is_built_in_function_name.Goals as goal
 
 pub returns-in-2 : goal.returns-in-2
@@ -73,4 +75,6 @@ returns-in-25 c = by_length 25 function_names c.is_among-in-25.ensures c.in-25.i
 pub returns-in_default : goal.returns-in_default
 unfolding function_names
 returns-in_default c =
-    ?
+    let s = c.args.s.now in
+    no_length (2 ∷ 3 ∷ 4 ∷ 5 ∷ 6 ∷ 7 ∷ 8 ∷ 9 ∷ 10 ∷ 11 ∷ 12 ∷ 13 ∷ 14 ∷ 15 ∷ 16 ∷ 25 ∷ []) s function_names refl
+    (rw (other {c = length s} {k = 2} (λ e. omega arith), other {c = length s} {k = 3} (λ e. omega arith), other {c = length s} {k = 4} (λ e. omega arith), other {c = length s} {k = 5} (λ e. omega arith), other {c = length s} {k = 6} (λ e. omega arith), other {c = length s} {k = 7} (λ e. omega arith), other {c = length s} {k = 8} (λ e. omega arith), other {c = length s} {k = 9} (λ e. omega arith), other {c = length s} {k = 10} (λ e. omega arith), other {c = length s} {k = 11} (λ e. omega arith), other {c = length s} {k = 12} (λ e. omega arith), other {c = length s} {k = 13} (λ e. omega arith), other {c = length s} {k = 14} (λ e. omega arith), other {c = length s} {k = 15} (λ e. omega arith), other {c = length s} {k = 16} (λ e. omega arith), other {c = length s} {k = 25} (λ e. omega arith)))
