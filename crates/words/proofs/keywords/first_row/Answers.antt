@@ -1,6 +1,7 @@
 -- At each of its letters the definition computes; any other character begins none of the words.
 use Rattle.reading.proofs.Test.{other}
 use Rattle.words.specs.Keywords.{place_of, initials}
+use native.Mathlib.Omega.{arith}
 use Rattle.words.proofs.keywords.first_row.Goals as goal
 
 pub returns-in-97 : goal.returns-in-97
@@ -53,4 +54,4 @@ returns-in-116 c = rw c.in-116.is
 
 pub returns-in_default : goal.returns-in_default
 unfolding place_of initials
-returns-in_default c = rw (other c.in-97.rest.0.0.0.0.0.0.0.0.0.0.0.1, other c.in-97.rest.0.0.0.0.0.0.0.0.0.0.1, other c.in-97.rest.0.0.0.0.0.0.0.0.0.1, other c.in-97.rest.0.0.0.0.0.0.0.0.1, other c.in-97.rest.0.0.0.0.0.0.0.1, other c.in-97.rest.0.0.0.0.0.0.1, other c.in-97.rest.0.0.0.0.0.1, other c.in-97.rest.0.0.0.0.1, other c.in-97.rest.0.0.0.1, other c.in-97.rest.0.0.1, other c.in-97.rest.0.1, other c.in-97.rest.1)
+returns-in_default c = rw (other {c = c.args.x} {k = 97} (λ e. omega arith), other {c = c.args.x} {k = 98} (λ e. omega arith), other {c = c.args.x} {k = 99} (λ e. omega arith), other {c = c.args.x} {k = 101} (λ e. omega arith), other {c = c.args.x} {k = 102} (λ e. omega arith), other {c = c.args.x} {k = 105} (λ e. omega arith), other {c = c.args.x} {k = 108} (λ e. omega arith), other {c = c.args.x} {k = 110} (λ e. omega arith), other {c = c.args.x} {k = 111} (λ e. omega arith), other {c = c.args.x} {k = 114} (λ e. omega arith), other {c = c.args.x} {k = 115} (λ e. omega arith), other {c = c.args.x} {k = 116} (λ e. omega arith))

@@ -7,6 +7,7 @@ use Rattle.reading.specs.Cells.{is_one_of}
 use Rattle.lexer.specs.Window.{first_of}
 use Rattle.words.specs.Keywords.{pairs}
 use Rattle.words.proofs.KeywordLaws.{sign_two, sign_none}
+use native.Mathlib.Omega.{arith}
 use Rattle.words.proofs.keywords.pair.Goals as goal
 
 pub returns-in-46 : goal.returns-in-46
@@ -35,4 +36,4 @@ returns-in-45 c = sign_two 0x3E c.in-45.is c.only-in-45.ensures (record { spacel
 
 pub returns-in_default : goal.returns-in_default
 unfolding pairs first_of
-returns-in_default c = sign_none (is_one_of (codes ".*!<>-")) pairs (_ ∷ []) refl (rw (other c.in-46.rest.0.0.0.0.0.1, other c.in-46.rest.0.0.0.0.1, other c.in-46.rest.0.0.0.1, other c.in-46.rest.0.0.1, other c.in-46.rest.0.1, other c.in-46.rest.1))
+returns-in_default c = sign_none (is_one_of (codes ".*!<>-")) pairs (_ ∷ []) refl (rw (other {c = c.args.c} {k = 46} (λ e. omega arith), other {c = c.args.c} {k = 42} (λ e. omega arith), other {c = c.args.c} {k = 33} (λ e. omega arith), other {c = c.args.c} {k = 60} (λ e. omega arith), other {c = c.args.c} {k = 62} (λ e. omega arith), other {c = c.args.c} {k = 45} (λ e. omega arith)))

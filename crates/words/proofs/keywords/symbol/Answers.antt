@@ -6,6 +6,7 @@ use Rattle.reading.specs.Codes.{codes}
 use Rattle.reading.specs.Cells.{is_one_of}
 use Rattle.lexer.specs.Window.{symbols, first_of}
 use Rattle.words.proofs.KeywordLaws.{sign_one, sign_none}
+use native.Mathlib.Omega.{arith}
 use Rattle.words.proofs.keywords.symbol.Goals as goal
 
 pub returns-in-46 : goal.returns-in-46
@@ -78,4 +79,4 @@ returns-in-64 c = sign_one c.in-64.is (record { spaceless = refl; says = λ f w 
 
 pub returns-in_default : goal.returns-in_default
 unfolding symbols first_of
-returns-in_default c = sign_none (is_one_of (codes ".,:+-*/=<>()[]{}@")) symbols [] refl (rw (other c.in-46.rest.0.0.0.0.0.0.0.0.0.0.0.0.0.0.0.0.1, other c.in-46.rest.0.0.0.0.0.0.0.0.0.0.0.0.0.0.0.1, other c.in-46.rest.0.0.0.0.0.0.0.0.0.0.0.0.0.0.1, other c.in-46.rest.0.0.0.0.0.0.0.0.0.0.0.0.0.1, other c.in-46.rest.0.0.0.0.0.0.0.0.0.0.0.0.1, other c.in-46.rest.0.0.0.0.0.0.0.0.0.0.0.1, other c.in-46.rest.0.0.0.0.0.0.0.0.0.0.1, other c.in-46.rest.0.0.0.0.0.0.0.0.0.1, other c.in-46.rest.0.0.0.0.0.0.0.0.1, other c.in-46.rest.0.0.0.0.0.0.0.1, other c.in-46.rest.0.0.0.0.0.0.1, other c.in-46.rest.0.0.0.0.0.1, other c.in-46.rest.0.0.0.0.1, other c.in-46.rest.0.0.0.1, other c.in-46.rest.0.0.1, other c.in-46.rest.0.1, other c.in-46.rest.1))
+returns-in_default c = sign_none (is_one_of (codes ".,:+-*/=<>()[]{}@")) symbols [] refl (rw (other {c = c.args.c} {k = 46} (λ e. omega arith), other {c = c.args.c} {k = 44} (λ e. omega arith), other {c = c.args.c} {k = 58} (λ e. omega arith), other {c = c.args.c} {k = 43} (λ e. omega arith), other {c = c.args.c} {k = 45} (λ e. omega arith), other {c = c.args.c} {k = 42} (λ e. omega arith), other {c = c.args.c} {k = 47} (λ e. omega arith), other {c = c.args.c} {k = 61} (λ e. omega arith), other {c = c.args.c} {k = 60} (λ e. omega arith), other {c = c.args.c} {k = 62} (λ e. omega arith), other {c = c.args.c} {k = 40} (λ e. omega arith), other {c = c.args.c} {k = 41} (λ e. omega arith), other {c = c.args.c} {k = 91} (λ e. omega arith), other {c = c.args.c} {k = 93} (λ e. omega arith), other {c = c.args.c} {k = 123} (λ e. omega arith), other {c = c.args.c} {k = 125} (λ e. omega arith), other {c = c.args.c} {k = 64} (λ e. omega arith)))
