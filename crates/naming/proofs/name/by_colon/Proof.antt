@@ -35,7 +35,7 @@ same-length-3 : tie.Need-same-length-3
 same-length-3 c = search rules
 
 returns-2 : tie.Need-returns-2
-returns-2 c = (gives_as (colon_not _ _ _ _ _ _ c.before.before.before.before.before.before.before.before.is_at.ensures c.before.before.before.before.before.before.before.if1.false) c.before.before.before.before.by-prefix.ensures.0, c.before.before.before.before.by-prefix.ensures.1)
+returns-2 c = (gives_as (colon_not _ _ _ _ _ _ c.before.before.before.before.before.before.before.before.is_at.ensures c.before.before.before.before.before.before.before.if1.false) c.before.before.before.before.by_prefix_lem.ensures.0, c.before.before.before.before.by_prefix_lem.ensures.1)
 
 pub by-colon-spec : {M : Type 1} → statement M
 by-colon-spec =

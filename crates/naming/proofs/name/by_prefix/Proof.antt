@@ -29,7 +29,7 @@ same-length-2 : tie.Need-same-length-2
 same-length-2 c = search rules
 
 returns : tie.Need-returns
-returns c = let k = c.before.before.before.before.before.before.before.before.before.before.before.before in let l = c.before.before.before.before.before.before.before.longest-prefix.ensures in (gives_as (prefix_none l.0 k.requires.0 (omega arith)) (c.before.before.all-parts.ensures (is_name (scope_of (lent k.args.s k.args.slots.now k.args.names.now)))), l.1)
+returns c = let k = c.before.before.before.before.before.before.before.before.before.before.before.before in let l = c.before.before.before.before.before.before.before.longest-prefix.ensures in (gives_as (prefix_none l.0 k.requires.0 (omega arith)) (c.before.before.all_parts_lem.ensures (is_name (scope_of (lent k.args.s k.args.slots.now k.args.names.now)))), l.1)
 
 clear-after-dot-requires : tie.Need-clear-after-dot-requires
 clear-after-dot-requires c κs = search rules

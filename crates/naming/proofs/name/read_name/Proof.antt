@@ -33,7 +33,7 @@ same_length : tie.Need-same-length
 same_length c = search rules
 
 returns : tie.Need-returns
-returns c = let k = c.before.before.before.before.before.before.before.before.before.before.before in let n = c.before.before.before.before.before.before.before.count-parts.ensures in (item_there n _ _ (some_part k.requires.0 k.requires.1 n) c.before.before.before.before.before.next-is.ensures c.before.before.before.before.if1.true c.before.before.cut_at.ensures, refl)
+returns c = let k = c.before.before.before.before.before.before.before.before.before.before.before in let n = c.before.before.before.before.before.before.before.count-parts.ensures in (item_there n _ _ (some_part k.requires.0 k.requires.1 n) c.before.before.before.before.before.next_is.ensures c.before.before.before.before.if1.true c.before.before.cut_at.ensures, refl)
 
 by-in-requires : tie.Need-by-in-requires
 by-in-requires c κs = let k = c.before.before.before.before.before.before.before.before.before in let n = c.before.before.before.before.before.count-parts.ensures in (n, roomy k.requires.0 k.requires.1 n (omega arith), k.requires.3)
@@ -45,7 +45,7 @@ same-length-3 : tie.Need-same-length-3
 same-length-3 c = search rules
 
 returns-2 : tie.Need-returns-2
-returns-2 c = let k = c.before.before.before.before.before.before.before.before.before.before.before.before.before.before in let n = c.before.before.before.before.before.before.before.before.before.before.count-parts.ensures in (item_not n _ _ (some_part k.requires.0 k.requires.1 n) c.before.before.before.before.before.before.before.before.next-is.ensures c.before.before.before.before.before.before.before.if1.false c.before.before.before.before.by_in.ensures.0, c.before.before.before.before.by_in.ensures.1)
+returns-2 c = let k = c.before.before.before.before.before.before.before.before.before.before.before.before.before.before in let n = c.before.before.before.before.before.before.before.before.before.before.count-parts.ensures in (item_not n _ _ (some_part k.requires.0 k.requires.1 n) c.before.before.before.before.before.before.before.before.next_is.ensures c.before.before.before.before.before.before.before.if1.false c.before.before.before.before.by_in.ensures.0, c.before.before.before.before.by_in.ensures.1)
 
 pub read-name-spec : {M : Type 1} → statement M
 read-name-spec =

@@ -45,7 +45,7 @@ read-to-match-requires c κs =
     let a = k.requires.0 in
     let b = c.before.before.before.before.before.wide.ensures.0 in
     let p = kept_place a k.requires.1 in
-    (omega (arith, a.limit, b, p), omega (arith, a.rows_long, b, p, k.requires.3), omega (arith, a.store_long, b, p, k.requires.4), omega (arith, a.scratch-long, b, p), omega (arith, b, k.requires.3), omega (arith, b, k.requires.4), edit_small a, askable_accepted a, k.requires.5, k.requires.6)
+    (omega (arith, a.limit, b, p), omega (arith, a.rows_long, b, p, k.requires.3), omega (arith, a.store_long, b, p, k.requires.4), omega (arith, a.scratch_long, b, p), omega (arith, b, k.requires.3), omega (arith, b, k.requires.4), edit_small a, askable_accepted a, k.requires.5, k.requires.6)
 
 copy-items-requires : tie.Need-copy-items-requires
 copy-items-requires c κs =

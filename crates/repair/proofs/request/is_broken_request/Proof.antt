@@ -28,7 +28,7 @@ record-fits-requires c κs = search rules
 returns-4 : tie.Need-returns-4
 returns-4 c =
     let a = c.before.before.before.before.before.before.before.args in
-    no_record (asked a.old-length a.rows.now a.store.now a.from a.to a.size a.part.now) (omega arith) (omega arith) (omega arith) (sym c.before.record-fits.ensures ∙ not-true _ c.if4.true)
+    no_record (asked a.old-length a.rows.now a.store.now a.from a.to a.size a.part.now) (omega arith) (omega arith) (omega arith) (sym c.before.record_fits_lem.ensures ∙ not-true _ c.if4.true)
 
 part-start-requires : tie.Need-part-start-requires
 part-start-requires c κs = search rules
@@ -43,7 +43,7 @@ returns-5 : tie.Need-returns-5
 returns-5 c =
     let a = c.before.before.before.before.before.before.before.before.before.args in
     let q = asked a.old-length a.rows.now a.store.now a.from a.to a.size a.part.now in
-    part_left q (omega arith) (omega arith) (omega arith) (sym c.before.before.before.record-fits.ensures ∙ not-false _ c.before.before.if4.false) (c.before.part-start.ensures.last q.edit a.store.now refl) c.ends_with.ensures
+    part_left q (omega arith) (omega arith) (omega arith) (sym c.before.before.before.record_fits_lem.ensures ∙ not-false _ c.before.before.if4.false) (c.before.part-start.ensures.last q.edit a.store.now refl) c.ends_with.ensures
 
 pub is-broken-request-spec : {M : Type 1} → statement M
 is-broken-request-spec =

@@ -30,7 +30,7 @@ read-items-requires : tie.Need-read-items-requires
 read-items-requires c κs =
     let a = c.before.before.before.before.before.before.before.before.before.before.before.before.args in
     let p = passes _ (length a.text.now) (length a.rows.now) (length a.store.now) _ _ c.before.before.before.before.refusal.ensures (omega arith) in
-    (p.within, p.rows_long, p.store_long, p.scratch-long, p.whole, clear-zeros a.scratch.now c.before.before.before.before.before.before.before.clear.ensures)
+    (p.within, p.rows_long, p.store_long, p.scratch_long, p.whole, clear-zeros a.scratch.now c.before.before.before.before.before.before.before.clear.ensures)
 
 same-length-2 : tie.Need-same-length-2
 same-length-2 c = search rules

@@ -78,7 +78,7 @@ returns-4 : tie.Need-returns-4
 returns-4 c =
     let y = c.before.before.before.before.before.before.before.before.before.before.before.before.before.before.before.before.before in
     let x = y.args in
-    (takes_as (case-symbol (flags_of x.flags) (is_name (scope_of (lent x.s x.slots.now x.names.now))) x.rest.now x.i y.requires.2 c.before.before.before.before.before.before.before.before.before.before.before.before.before.begins-with-point.ensures c.before.before.before.before.before.before.before.before.before.before.before.before.if1.false (ne_eqb 0x22 _ c.before.before.before.before.before.before.before.before.before.before.before.if2.false)) (row_missed symbols c.before.before.before.before.before.before.before.before.before.before.first-symbol.ensures c.before.before.before.before.before.before.before.before.m2.given.1 c.before.before.before.before.other-cases.ensures.0), c.before.before.before.before.other-cases.ensures.1)
+    (takes_as (case-symbol (flags_of x.flags) (is_name (scope_of (lent x.s x.slots.now x.names.now))) x.rest.now x.i y.requires.2 c.before.before.before.before.before.before.before.before.before.before.before.before.before.begins-with-point.ensures c.before.before.before.before.before.before.before.before.before.before.before.before.if1.false (ne_eqb 0x22 _ c.before.before.before.before.before.before.before.before.before.before.before.if2.false)) (row_missed symbols c.before.before.before.before.before.before.before.before.before.before.first-symbol.ensures c.before.before.before.before.before.before.before.before.m2.given.1 c.before.before.before.before.other_cases_lem.ensures.0), c.before.before.before.before.other_cases_lem.ensures.1)
 
 pub behind-words-spec : {M : Type 1} → statement M
 behind-words-spec =
