@@ -1,5 +1,4 @@
 -- No slot before i has a depth from `most` on.
-use Prim.Native.Nat.{◌-◌}
 use Rattle.search.proofs.WidthLaws.{deepest_none, deepest_more, deepest_all}
 use native.Mathlib.Omega.{arith}
 use Rattle.search.proofs.longest.depths.Goals as goal

@@ -1,6 +1,6 @@
 -- What was passed is the largest of the slots before i. `short_parsed` reads no row of names: the slots stand in their place.
 use Rattle.scope.proofs.ParsedLaws.{short_parsed}
-use Prim.Native.Nat.{◌+◌, ◌-◌}
+use Prim.Native.Nat.{◌+◌}
 use Rattle.scope.specs.Limits.{max_entries}
 use Rattle.scope.specs.Rows.{name_length}
 use Rattle.search.proofs.WidthLaws.{most_none, most_more, most-all}

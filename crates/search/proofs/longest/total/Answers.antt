@@ -1,5 +1,5 @@
 -- What was passed is the sum from depth d down to the deepest in use; behind that nothing is added.
-use Prim.Native.Nat.{◌+◌, ◌-◌}
+use Prim.Native.Nat.{◌+◌}
 use Rattle.scope.specs.Limits.{max_depth}
 use Rattle.search.specs.Longest.{widest}
 use Rattle.search.proofs.WidthLaws.{deepest_total, total_more, total-all}

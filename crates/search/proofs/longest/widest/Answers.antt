@@ -1,5 +1,4 @@
 -- What was passed is the most that a slot before i adds.
-use Prim.Native.Nat.{◌-◌}
 use Rattle.search.specs.Longest.{width}
 use Rattle.search.proofs.WidthLaws.{most_none, most_more, most-all}
 use native.Mathlib.Omega.{arith}
