@@ -4,7 +4,7 @@ use Rattle.naming.proofs.CutLaws.{Seeking}
 use Rattle.naming.proofs.name.before_in.Given as goal
 
 abbrev pub invariant-loop-m : goal.invariant-loop-m
-invariant-loop-m l = Seeking l.rest l.from l.n l.m m
+invariant-loop-m l = Seeking l.rest l.from l.n l.i l.m
 
 abbrev pub decreases-loop-m : goal.decreases-loop-m
-decreases-loop-m l = l.n - m
+decreases-loop-m l = l.n - l.m

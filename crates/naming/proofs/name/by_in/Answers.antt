@@ -1,4 +1,5 @@
 -- The parts before `in`, or the other decisions where there is none.
+use borrow.Author.Tests.{not-true, not-false}
 use Rattle.scope.specs.Keys.{is_name}
 use Rattle.scope.specs.Lent.{scope_of}
 use Rattle.scope.specs.Answers.{lent}
@@ -11,17 +12,17 @@ use mathlib.Core.Path.{refl}
 use Rattle.naming.proofs.name.by_in.Goals as goal
 
 pub returns-then-not-flags : goal.returns-then-not-flags
-returns-then-not-flags c = (gives_as (in_off _ _ _ _ _ _ c.if-not-flags.true) c.by_colon.ensures.0, c.by_colon.ensures.1)
+returns-then-not-flags c = let x = c.args in (gives_as (in_off (flags_of x.flags) (is_name (scope_of (lent x.s x.slots.now x.names.now))) x.rest.now x.from x.n x.end (not-true _ c.if-not-flags.true)) c.by_colon.ensures.0, c.by_colon.ensures.1)
 
 pub returns-then-n-m : goal.returns-then-n-m
-returns-then-n-m c = (gives_as (in_not _ _ _ _ _ _ c.if-not-flags.false c.before_in-m.ensures (omega arith)) c.by_colon-then-n-m.ensures.0, c.by_colon-then-n-m.ensures.1)
+returns-then-n-m c = let x = c.args in (gives_as (in_not (flags_of x.flags) (is_name (scope_of (lent x.s x.slots.now x.names.now))) x.rest.now x.from x.n x.end (not-false _ c.if-not-flags.false) c.before_in-m.ensures (omega arith)) c.by_colon-then-n-m.ensures.0, c.by_colon-then-n-m.ensures.1)
 
 pub returns-then-m-eq0 : goal.returns-then-m-eq0
-returns-then-m-eq0 c = (gives_as (in_first _ _ _ _ _ _ c.if-not-flags.false c.before_in-m.ensures (omega arith) (omega arith)) (record { read = refl; used = refl; flags = refl; looked = refl; left = refl }), refl)
+returns-then-m-eq0 c = let x = c.args in (gives_as (in_first (flags_of x.flags) (is_name (scope_of (lent x.s x.slots.now x.names.now))) x.rest.now x.from x.n x.end (not-false _ c.if-not-flags.false) c.before_in-m.ensures (omega arith) (omega arith)) (record { read = refl; used = refl; flags = refl; looked = refl; left = refl }), refl)
 
 pub returns : goal.returns
 returns c =
     let k = c in
     let x = k.args in
-    let e = in_later (flags_of x.flags) (is_name (scope_of (lent x.s x.slots.now x.names.now))) x.rest.now x.from x.n x.end c.if-not-flags.false c.before_in-m.ensures (omega arith) (omega arith) (prefix_many _ _ _ _ k.requires.0.count (omega arith)) in
+    let e = in_later (flags_of x.flags) (is_name (scope_of (lent x.s x.slots.now x.names.now))) x.rest.now x.from x.n x.end (not-false _ c.if-not-flags.false) c.before_in-m.ensures (omega arith) (omega arith) (prefix_many _ _ _ _ k.requires.0.count (omega arith)) in
     (gives_as e (gives_flags c.clear_till_in.ensures c.cut_at.ensures), refl)

@@ -1,4 +1,8 @@
 -- The parts are counted once; `item` is tried first.
+use Rattle.scope.specs.Answers.{lent}
+use Rattle.scope.specs.Lent.{scope_of}
+use Rattle.scope.specs.Keys.{is_name}
+use Rattle.lexer.specs.FlagsOf.{flags_of}
 use mathlib.Core.Path.{refl}
 use native.Mathlib.Omega.{arith}
 use Rattle.naming.proofs.NamingLaws.{item_there, item_not, some_part, roomy}
@@ -13,10 +17,10 @@ pub cut_at-requires : goal.cut_at-requires
 cut_at-requires c = let k = c in let l = cell_there is_name_part _ _ k.requires.1 in let n = c.count_parts-w.ensures in let z = some_part k.requires.0 k.requires.1 n in (omega arith, omega arith, omega arith, n.count, roomy k.requires.0 k.requires.1 n (omega arith))
 
 pub returns-then-next_is : goal.returns-then-next_is
-returns-then-next_is c = let k = c in let n = c.count_parts-w.ensures in (item_there n _ _ (some_part k.requires.0 k.requires.1 n) c.next_is.ensures c.if-next_is.true c.cut_at.ensures, refl)
+returns-then-next_is c = let k = c in let x = k.args in let n = c.count_parts-w.ensures in (item_there n (flags_of x.flags) (is_name (scope_of (lent x.s x.slots.now x.names.now))) (some_part k.requires.0 k.requires.1 n) c.next_is.ensures c.if-next_is.true c.cut_at.ensures, refl)
 
 pub by_in-requires : goal.by_in-requires
 by_in-requires c = let k = c in let n = c.count_parts-w.ensures in (n, roomy k.requires.0 k.requires.1 n (omega arith), k.requires.3)
 
 pub returns : goal.returns
-returns c = let k = c in let n = c.count_parts-w.ensures in (item_not n _ _ (some_part k.requires.0 k.requires.1 n) c.next_is.ensures c.if-next_is.false c.by_in.ensures.0, c.by_in.ensures.1)
+returns c = let k = c in let x = k.args in let n = c.count_parts-w.ensures in (item_not n (flags_of x.flags) (is_name (scope_of (lent x.s x.slots.now x.names.now))) (some_part k.requires.0 k.requires.1 n) c.next_is.ensures c.if-next_is.false c.by_in.ensures.0, c.by_in.ensures.1)
