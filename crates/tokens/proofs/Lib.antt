@@ -1,3 +1,2 @@
 pub mod TokenLaws
 pub mod CallLaws
-pub mod Setter

@@ -1,0 +1,25 @@
+-- Each digit goes behind the number so far, and no other byte is passed.
+use native.Mathlib.Omega.{arith}
+use Prim.Native.Nat.{◌-◌}
+use mathlib.Core.Path.{ap, ◌∙◌}
+use Rattle.cases.specs.Fields.{digit_value}
+use Rattle.cases.proofs.FieldLaws.{digits_none, digits_stop, digits-end, digits_out, digits_next}
+use Rattle.cases.proofs.fields.read_number.Goals as goal
+
+pub loop-i-init : goal.loop-i-init
+loop-i-init c = digits_none
+
+pub wide-requires : goal.wide-requires
+wide-requires c = tt
+
+pub hex_to_decimal-d-requires : goal.hex_to_decimal-d-requires
+hex_to_decimal-d-requires c = tt
+
+pub returns-then-base-d : goal.returns-then-base-d
+returns-then-base-d c = digits_stop c.loop-i.invariant (digits_out _ _ _ _ (omega arith) (omega (arith, c.hex_to_decimal-d.ensures ∙ ap digit_value c.wide.ensures)))
+
+pub loop-i-preserved : goal.loop-i-preserved
+loop-i-preserved c = digits_next c.loop-i.invariant (omega arith) (c.hex_to_decimal-d.ensures ∙ ap digit_value c.wide.ensures) (omega arith) c.appended-n.ensures
+
+pub returns : goal.returns
+returns c = digits_stop c.loop-i.invariant (digits-end _ _ _ _ (omega arith))
