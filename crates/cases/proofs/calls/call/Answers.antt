@@ -20,10 +20,10 @@ returns c =
     let x = k.args in
     let m = c.made-r in
     let a = m.ensures in
-    let q = call_read x.line.now x.from k.read_decimal-number.ensures k.read_cells-n.ensures k.read_decimal-entries.ensures k.least-count.ensures _ k.read_list-next.ensures refl refl refl in (
-      λ h. rw c.after.ensures (still_whole m.result _ _ _ _ _ a.1 a.2 a.3 h),
-      (
-        λ h. rw c.after.ensures (after_model m.result x.s _ _ _ _ (call_at x.line.now x.from) a.1 a.2 (a.0 ∙ ap (on_scope _) q.0) h),
-        (q.1, a.0 ∙ ap (on_scope _) q.0),
-      ),
-    )
+    let q = call_read x.line.now x.from k.read_decimal-number.ensures k.read_cells-n.ensures k.read_decimal-entries.ensures k.least-count.ensures _ k.read_list-next.ensures refl refl refl in
+    record {
+      whole = λ h. rw c.after.ensures (still_whole m.result _ _ _ _ _ a.1 a.2 a.3 h);
+      model = λ h. rw c.after.ensures (after_model m.result x.s _ _ _ _ (call_at x.line.now x.from) a.1 a.2 (a.0 ∙ ap (on_scope _) q.0) h);
+      next = q.1;
+      answer = a.0 ∙ ap (on_scope _) q.0;
+    }

@@ -1,4 +1,5 @@
 -- Each call answers as the model does, and keeps the rows where it is refused; popping writes none.
+use native.Mathlib.Omega.{arith}
 use Rattle.cases.proofs.AfterLaws.{kept_same, made_push, made_pop, made_name, made_context, made_parsed}
 use Rattle.cases.proofs.calls.made.Goals as goal
 
@@ -15,4 +16,4 @@ pub returns-in-3 : goal.returns-in-3
 returns-in-3 c = (made_context _ _ _ _ _ c.in-3.is c.set_context.ensures.0, c.set_context.ensures.1, c.set_context.ensures.2, c.set_context.ensures.3)
 
 pub returns-in_default : goal.returns-in_default
-returns-in_default c = (made_parsed _ _ _ _ _ c.in-0.rest.0.0.0.1 c.in-0.rest.0.0.1 c.in-0.rest.0.1 c.in-0.rest.1 c.add_parsed_name.ensures.0, c.add_parsed_name.ensures.1, c.add_parsed_name.ensures.2, c.add_parsed_name.ensures.3)
+returns-in_default c = (made_parsed _ _ _ _ _ (λ e. omega arith) (λ e. omega arith) (λ e. omega arith) (λ e. omega arith) c.add_parsed_name.ensures.0, c.add_parsed_name.ensures.1, c.add_parsed_name.ensures.2, c.add_parsed_name.ensures.3)

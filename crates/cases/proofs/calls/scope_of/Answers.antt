@@ -13,15 +13,17 @@ opened-s-requires c = tt
 pub loop-left-init : goal.loop-left-init
 loop-left-init c = (refl, refl, λ h g. (c.opened-s.ensures.1 _ _ h g, rw (c.read_decimal-count.ensures.0, c.read_decimal-count.ensures.1, c.opened-s.ensures.0 c.args.slots.now c.args.names.now)))
 
-pub call-c-requires : goal.call-c-requires
-call-c-requires c = tt
-
 pub loop-left-preserved : goal.loop-left-preserved
-loop-left-preserved c = (
-  omega arith,
-  omega arith,
-  λ h g. (c.call-c.ensures.0 (c.loop-left.invariant.2 h g).0, (c.loop-left.invariant.2 h g).1 ∙ calls_more _ _ _ _ (omega arith) c.call-c.ensures.1.1.0 (c.call-c.ensures.1.0 (c.loop-left.invariant.2 h g).0)),
-)
+loop-left-preserved c =
+    let k = c.call-c.ensures in
+    (
+      omega arith,
+      omega arith,
+      λ h g. (k.whole (c.loop-left.invariant.2 h g).0, (c.loop-left.invariant.2 h g).1 ∙ calls_more _ _ _ _ (omega arith) k.next (k.model (c.loop-left.invariant.2 h g).0)),
+    )
 
 pub returns : goal.returns
-returns c = (λ h g. (c.loop-left.invariant.2 h g).0, λ h g. sym ((c.loop-left.invariant.2 h g).1 ∙ calls_over _ _ _ _ (omega arith)))
+returns c = record {
+  whole = λ h g. (c.loop-left.invariant.2 h g).0;
+  model = λ h g. sym ((c.loop-left.invariant.2 h g).1 ∙ calls_over _ _ _ _ (omega arith));
+}
