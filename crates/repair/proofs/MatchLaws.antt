@@ -14,7 +14,7 @@ use Rattle.runs.specs.Edit.{Edit, moved}
 use Rattle.runs.specs.Repair.{same_flags}
 use Rattle.runs.specs.Record.{flag_bits, bit_flags, refused_at, flags_at}
 use Rattle.repair.specs.Match.{Accepted, place_at, Passed, Before, Ahead, Looked}
-use Rattle.runs.proofs.RepairLaws.{same_flags}
+use Rattle.runs.proofs.RepairLaws.{same_flags_lem}
 use Rattle.runs.proofs.RecordLaws.{bits_back, bits_again}
 use Rattle.repair.proofs.FittingLaws.{record_row}
 use Rattle.repair.proofs.PointerLaws.{record_rising, passed-row, match_end, match_none, match_here}
@@ -57,7 +57,7 @@ module _ (n : ℕ) (f : Flags) where
   numbers_differ l h = go (same_flags (bit_flags n) f) refl
     where
       go : (b : Bool) → same_flags (bit_flags n) f ≡ b → b ≡ false
-      go true s = absurd (false≢true (sym h ∙ eq-eqb n (flag_bits f) (sym (ap flag_bits (sym (same_flags (bit_flags n) f s)) ∙ bits_again n l))))
+      go true s = absurd (false≢true (sym h ∙ eq-eqb n (flag_bits f) (sym (ap flag_bits (sym (same_flags_lem (bit_flags n) f s)) ∙ bits_again n l))))
       go false s = refl
 
 module _ {e : Edit} {rows : List (List ℕ)} {j p : ℕ} (s : Passed e rows j p) (f : Flags) where

@@ -14,7 +14,7 @@ use Rattle.runs.specs.Item.{Item, bit}
 use Rattle.runs.specs.Repair.{same_flags}
 use Rattle.runs.specs.Record.{flag_bits, bit_flags, refused_at, flags_at, start_at, length_at, row_of, rows_from, store_of, item_of, unpack}
 use Rattle.runs.specs.Request.{is_row}
-use Rattle.runs.proofs.RepairLaws.{same_flags}
+use Rattle.runs.proofs.RepairLaws.{same_flags_lem}
 
 bit_back : (b : Bool) → eqb (bit b) 1 ≡ b
 bit_back true = refl
@@ -35,7 +35,7 @@ abbrev is_back : Flags → Bool
 is_back f = same_flags (bit_flags (flag_bits f)) f
 
 pub bits_back : (f : Flags) → bit_flags (flag_bits f) ≡ f
-bits_back f = same_flags _ _
+bits_back f = same_flags_lem _ _
     (for_any (λ e. is_back (flags f.unary_tests f.between f.type_name f.till_in e))
     (for_any (λ d. for_both (λ e. is_back (flags f.unary_tests f.between f.type_name d e)))
     (for_any (λ c. for_both (λ d. for_both (λ e. is_back (flags f.unary_tests f.between c d e))))
@@ -66,7 +66,7 @@ module _ (behind : List ℕ) where
 
 pub row_count_lem : (at : ℕ) (is : List Item) → length (rows_from at is) ≡ length is
 row_count_lem at [] = refl
-row_count_lem at (i ∷ is) = ap suc (row_count_lem _ is)
+row_count_lem at (i ∷ is) = ap suc (row_count_lem (at + length i.value) is)
 
 -- The other way round: a row of an accepted record is written again as it was read.
 bit_again : (n : ℕ) → n ≤ 1 → bit (eqb n 1) ≡ n

@@ -84,7 +84,7 @@ module _ (tok : Reader) (old new : List ℕ) (e : Edit)
   rest-found : {is : List Item} (i : Item) (p : ℕ) (f : Flags) → Runs tok old i.position i.flags is → Rest p f (old_rest e (i ∷ is) p f)
   unfolding old_rest
   rest-found i p f (last h) = by_test (Rest p f) (is_match e i p f) (rest_at i p f (last h)) (λ _. tt)
-  rest-found i p f (more h r) = by_test (Rest p f) (is_match e i p f) (rest_at i p f (more h r)) (λ _. rest-found _ p f r)
+  rest-found i p f (more h r) = by_test (Rest p f) (is_match e i p f) (rest_at i p f (more h r)) (λ _. rest-found (item_at tok old i.position i.flags) p f r)
 
   module _ (olds : List Item) (rest : (p : ℕ) (f : Flags) → Rest p f (old_rest e olds p f)) where
     rest_or : (p : ℕ) (f : Flags) (o : Option (List Item)) {is : List Item} → Rest p f o → Runs tok new p f is → Runs tok new p f (maybe o is (λ js. js))

@@ -18,7 +18,7 @@ use Rattle.runs.specs.Item.{Item, item, bit, ends_run}
 use Rattle.runs.specs.Run.{Reader, seen, item_at, items, start_item, run_items}
 use Rattle.runs.specs.Record.{flag_bits, row_of, rows_from, store_of}
 use Rattle.runs.specs.Request.{is_number, adds_up, row_fits, rows_fit, record_fits}
-use Rattle.runs.proofs.RecordLaws.{row_count}
+use Rattle.runs.proofs.RecordLaws.{row_count_lem}
 use Rattle.runs.proofs.RunLaws.{Runs, last, more, IsSound, complete, item_count}
 
 and : {b c : Bool} → b ≡ true → c ≡ true → b && c ≡ true
@@ -101,6 +101,6 @@ module _ (tok : Reader) (sound : IsSound tok) (t : List ℕ) (limit : length t �
       go true e = rw e (and (le-leb 1 (length t + 2) (omega arith)) (and (and (and (first (length behind)) refl) refl) refl))
       go false e =
           let is = items tok (length t + 1) t 0 f in
-          let count : suc (length (rows_from 0 is)) ≤ length t + 2 = omega (arith, row_count 0 is, item_count tok (length t + 1) t 0 f) in
+          let count : suc (length (rows_from 0 is)) ≤ length t + 2 = omega (arith, row_count_lem 0 is, item_count tok (length t + 1) t 0 f) in
           rw e (and (le-leb _ _ count) (and (and (and (first (length (store_of is ++ behind))) refl) refl)
           (items-fit (length (store_of is ++ behind)) 0 (complete tok sound t limit 0 f) (omega arith) (omega (arith, length-append (store_of is) behind)))))

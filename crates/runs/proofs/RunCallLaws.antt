@@ -19,7 +19,7 @@ use Rattle.runs.specs.Run.{run_items}
 use Rattle.runs.specs.Copied.{Behind}
 use Rattle.runs.specs.Calls.{Room, Answer, made, refused, room_after, run_record}
 use Rattle.runs.specs.Ran.{answer_of, Ran, refusal, Stands}
-use Rattle.runs.proofs.RecordLaws.{row_count}
+use Rattle.runs.proofs.RecordLaws.{row_count_lem}
 use Rattle.runs.proofs.CallLaws.{passes, checked_refused, checked_made}
 use Rattle.runs.proofs.RanLaws.{stands_all}
 use Rattle.runs.proofs.BehindLaws.{behind-same}
@@ -42,7 +42,7 @@ module _ (rows : List (List ℕ)) (store scratch : List ℕ) {clean : List ℕ} 
   pub made_so : {a : Answer} (is : List Item) → a ≡ made (pack is) → {n c : ℕ} {rows' : List (List ℕ)} {store' left : List ℕ} → Behind 0 0 rows store is n c rows' store' → left ≡ clean
       → (variant.Record n c ≡ answer_of a) × (record { rows = rows'; store = store'; scratch = left } ≡ room_after a lent_room)
   made_so is e {n} {c} b same =
-      let x : n ≡ length (rows_from 0 is) = omega (arith, b.count, row_count 0 is) in
+      let x : n ≡ length (rows_from 0 is) = omega (arith, b.count, row_count_lem 0 is) in
       let y : c ≡ length (store_of is) = omega (arith, b.cells) in
       (rw (e, x, y), rw (e, b.laid, b.stored, same, is_clean))
 

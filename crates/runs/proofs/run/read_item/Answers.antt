@@ -27,8 +27,20 @@ put_row-requires c =
     let m = found_small _ k.args.text.now k.args.at.position _ c.read_token-o.ensures.0 k.requires.0 k.requires.3 c.new-i.ensures in
     (k.requires.5, m, omega (arith, k.requires.0, k.requires.3, k.requires.4))
 
+pub overflow_add-result : goal.overflow_add-result
+overflow_add-result c =
+    let k = c in
+    let g = found _ k.args.text.now k.args.at.position _ c.read_token-o.ensures.0 k.requires.0 k.requires.3 in
+    omega (arith, g.used, k.requires.0)
+
 pub overflow_add-result-2 : goal.overflow_add-result-2
 overflow_add-result-2 c = let k = c in omega (arith, k.requires.6)
+
+pub overflow_add-result-3 : goal.overflow_add-result-3
+overflow_add-result-3 c =
+    let k = c in
+    let m = found_small _ k.args.text.now k.args.at.position _ c.read_token-o.ensures.0 k.requires.0 k.requires.3 c.new-i.ensures in
+    omega (arith, m.size, m.parts, k.requires.0, k.requires.3, k.requires.4)
 
 pub shape_of-store : goal.shape_of-store
 shape_of-store c =

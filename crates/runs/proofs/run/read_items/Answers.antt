@@ -1,4 +1,5 @@
 -- A loop goes on, item by item, from the place behind the start item.
+use borrow.Author.Tests.{not-true, not-false}
 use mathlib.Core.Path.{refl, sym, ap, ◌∙◌, subst}
 use Rattle.lexer.specs.Fit.{Clear}
 use Prim.Native.Nat.{◌-◌}
@@ -15,7 +16,7 @@ read_item-at-requires c =
     let k = c in
     let l = c in
     let s = l.loop-at.invariant.0.so (c.put_start-at.ensures _ _ _) k.requires.1 k.requires.2 in
-    let f = s.few c.loop-at-test.true in
+    let f = s.few (not-true _ c.loop-at-test.true) in
     (k.requires.0, omega (arith, s.behind.as_long, s.short, k.requires.2), omega (arith, ap length l.loop-at.invariant.1, k.requires.3), s.within, omega (arith, s.short, s.within, k.requires.0), omega (arith, f, s.within, s.behind.as_many, k.requires.1), omega (arith, f, s.within, k.requires.0), k.requires.4, subst Clear (sym l.loop-at.invariant.1) k.requires.5, c.longest_key-cap.ensures)
 
 pub loop-at-smaller : goal.loop-at-smaller
@@ -23,11 +24,11 @@ loop-at-smaller c =
     let k = c in
     let l = c in
     let s = l.loop-at.invariant.0.so (c.put_start-at.ensures _ _ _) k.requires.1 k.requires.2 in
-    let f = s.few c.loop-at-test.true in
+    let f = s.few (not-true _ c.loop-at-test.true) in
     omega (arith, f, s.within, c.read_item-at.ensures.0.written.count)
 
 pub loop-at-preserved : goal.loop-at-preserved
-loop-at-preserved c = (onward_more c.loop-at.invariant.0 c.read_item-at.ensures.0 c.loop-at-test.true, c.read_item-at.ensures.1 ∙ c.loop-at.invariant.1)
+loop-at-preserved c = (onward_more c.loop-at.invariant.0 c.read_item-at.ensures.0 (not-true _ c.loop-at-test.true), c.read_item-at.ensures.1 ∙ c.loop-at.invariant.1)
 
 pub shape_of-rows : goal.shape_of-rows
 shape_of-rows c =
@@ -46,4 +47,4 @@ pub returns : goal.returns
 returns c =
     let k = c in
     let l = c in
-    (l.loop-at.invariant.0.so (c.put_start-at.ensures _ _ _) k.requires.1 k.requires.2, c.loop-at-test.false, l.loop-at.invariant.1)
+    (l.loop-at.invariant.0.so (c.put_start-at.ensures _ _ _) k.requires.1 k.requires.2, (not-false _ c.loop-at-test.false), l.loop-at.invariant.1)

@@ -8,7 +8,7 @@ use Rattle.runs.proofs.run.run.Goals as goal
 pub returns-then-n-gt-NONE : goal.returns-then-n-gt-NONE
 returns-then-n-gt-NONE c =
     let a = c.args in
-    run_refused _ a.start-type _ a.text.now a.rows.now a.store.now a.scratch.now c.clear.ensures c.refusal-n.ensures (omega arith)
+    run_refused _ a.start_type _ a.text.now a.rows.now a.store.now a.scratch.now c.clear.ensures c.refusal-n.ensures (omega arith)
 
 pub read_items-at-requires : goal.read_items-at-requires
 read_items-at-requires c =
@@ -19,4 +19,4 @@ read_items-at-requires c =
 pub returns : goal.returns
 returns c =
     let a = c.args in
-    run_made _ a.start-type _ a.text.now a.rows.now a.store.now a.scratch.now c.clear.ensures c.refusal-n.ensures (omega arith) c.read_items-at.ensures.0 c.read_items-at.ensures.1 c.read_items-at.ensures.2
+    run_made _ a.start_type _ a.text.now a.rows.now a.store.now a.scratch.now c.clear.ensures c.refusal-n.ensures (omega arith) c.read_items-at.ensures.0 c.read_items-at.ensures.1 c.read_items-at.ensures.2
