@@ -1,46 +1,46 @@
 // Answers printed. What is written cannot be said in a contract, so these have none.
 use scope::scope::{Changed, Scope};
+use std::io;
 
 // The rest of a line behind its mark and a space.
-pub fn heading(line: &[u8]) {
+pub fn heading(rt: &impl Print, line: &[u8]) -> io::Result<()> {
     if line.len() < 2 {
-        return;
+        return Ok(());
     }
-    say::words(&line[2..]);
-    say::words(b"\n");
+    say::words(rt, &line[2..])?;
+    say::words(rt, b"\n")
 }
 
 // What a call answered: the counts after it, or the refusal's number.
-pub fn answer(text: &[u8], r: Changed) {
-    say::words(text);
+pub fn answer(rt: &impl Print, text: &[u8], r: Changed) -> io::Result<()> {
+    say::words(rt, text)?;
     match r {
-        Changed::Done(s) => counts(s),
-        Changed::Refused(n) => refusal(n),
+        Changed::Done(s) => counts(rt, s),
+        Changed::Refused(n) => refusal(rt, n),
     }
 }
 
-fn counts(s: Scope) {
-    say::words(b": done, contexts ");
-    say::decimal(s.contexts);
-    say::words(b", entries ");
-    say::decimal(s.entries);
-    say::words(b", parsed names ");
-    say::decimal(s.parsed);
-    say::words(b"\n");
+fn counts(rt: &impl Print, s: Scope) -> io::Result<()> {
+    say::words(rt, b": done, contexts ")?;
+    say::decimal(rt, s.contexts)?;
+    say::words(rt, b", entries ")?;
+    say::decimal(rt, s.entries)?;
+    say::words(rt, b", parsed names ")?;
+    say::decimal(rt, s.parsed)?;
+    say::words(rt, b"\n")
 }
 
-fn refusal(n: u32) {
-    say::words(b": refused with ");
-    say::decimal(n as usize);
-    say::words(b"\n");
+fn refusal(rt: &impl Print, n: u32) -> io::Result<()> {
+    say::words(rt, b": refused with ")?;
+    say::decimal(rt, n as usize)?;
+    say::words(rt, b"\n")
 }
 
 // Whether a text is a name.
-pub fn name(text: &[u8], is_name: bool) {
-    say::words(text);
+pub fn name(rt: &impl Print, text: &[u8], is_name: bool) -> io::Result<()> {
+    say::words(rt, text)?;
     if is_name {
-        say::words(b": a name\n");
-        return;
+        return say::words(rt, b": a name\n");
     }
-    say::words(b": no name\n");
+    say::words(rt, b": no name\n")
 }

@@ -1,6 +1,7 @@
 // Reads a rule on standard input and prints its items, which it has as structs on a page, a line each: item, type (R and number if refused), position, reach.
 
 #![tactic(auto)]
+
 use lexer::flags::Flags;
 use lexer::token_type::TokenType;
 use records::page;
@@ -9,69 +10,70 @@ use records::stored::Stored;
 use runs::call::Made;
 use runs::item::Item;
 use scope::scope::{Scope, Slot};
+use std::io;
 use text::refusal::Refusal;
 use text::utf8::Opening;
 
 // Of a longer rule the first bytes are read.
 const MAX_INPUT: usize = 128;
 
-fn word(text: &[u8]) {
-    io::write_all(1, text);
+fn word(rt: &impl Print, text: &[u8]) -> io::Result<()> {
+    rt.write_all(text)
 }
 
-fn number(n: u32) {
-    io::print_decimal(1, n as u64);
+fn number(rt: &impl Print, n: u32) -> io::Result<()> {
+    rt.print(n)
 }
 
-fn refused(n: u32, place: usize) {
-    word(b"R");
-    number(n);
-    word(b" ");
-    io::print_decimal(1, place as u64);
-    word(b"\n");
+fn refused(rt: &impl Print, n: u32, place: usize) -> io::Result<()> {
+    word(rt, b"R")?;
+    number(rt, n)?;
+    word(rt, b" ")?;
+    rt.print(place)?;
+    word(rt, b"\n")
 }
 
-fn line(i: usize, it: Stored) {
-    io::print_decimal(1, i as u64);
-    word(b" ");
+fn line(rt: &impl Print, i: usize, it: Stored) -> io::Result<()> {
+    rt.print(i)?;
+    word(rt, b" ")?;
     if it.refused {
-        word(b"R");
+        word(rt, b"R")?;
     }
-    number(it.number);
-    word(b" ");
-    number(it.position);
-    word(b" ");
-    number(it.reach);
-    word(b"\n");
+    number(rt, it.number)?;
+    word(rt, b" ")?;
+    number(rt, it.position)?;
+    word(rt, b" ")?;
+    number(rt, it.reach)?;
+    word(rt, b"\n")
 }
 
 // The lines of so many items.
-fn print_items(p: Page, count: usize) {
+fn print_items(rt: &impl Print, p: Page, count: usize) -> io::Result<()> {
     let mut i: usize = 0;
     while i < Page::ITEMS {
         if count <= i {
-            return;
+            return Ok(());
         }
-        line(i, p.items[i]);
+        line(rt, i, p.items[i])?;
         i += 1;
     }
+    Ok(())
 }
 
 // The items of the first n rows; more than a page holds are 9.
-fn print_rows(rows: &[[u32; Item::NUMBERS]], n: usize) {
+fn print_rows(rt: &impl Print, rows: &[[u32; Item::NUMBERS]], n: usize) -> io::Result<()> {
     if rows.len() < n {
-        return;
+        return Ok(());
     }
     let p = page::page_of(&rows[..n]);
     if p.refusal != Refusal::NONE {
-        refused(p.refusal, 0);
-        return;
+        return refused(rt, p.refusal, 0);
     }
-    print_items(p, n);
+    print_items(rt, p, n)
 }
 
 // The items of a text.
-fn print_text(text: &[u32]) {
+fn print_text(rt: &impl Print, text: &[u32]) -> io::Result<()> {
     let flags = Flags {
         unary_tests: false,
         between: false,
@@ -96,26 +98,26 @@ fn print_text(text: &[u32]) {
         &mut scratch,
     );
     match made {
-        Made::Record(n, _) => print_rows(&rows, n),
-        Made::Refused(k) => refused(k, 0),
+        Made::Record(n, _) => print_rows(rt, &rows, n),
+        Made::Refused(k) => refused(rt, k, 0),
     }
 }
 
 // The items of the first n cells.
-fn print_front(cells: &[u32], n: usize) {
+fn print_front(rt: &impl Print, cells: &[u32], n: usize) -> io::Result<()> {
     if cells.len() < n {
-        return;
+        return Ok(());
     }
-    print_text(&cells[..n]);
+    print_text(rt, &cells[..n])
 }
 
-fn main() {
+fn main(rt: HostRuntime) -> io::Result<()> {
     let mut bytes = [0u8; MAX_INPUT];
-    let n = io::read_full(0, &mut bytes);
+    let n = say::read_full(&rt, &mut bytes)?;
     let mut cells = [0u32; MAX_INPUT];
     let opening = text::utf8::open_bytes(&bytes[..n], &mut cells);
     match opening {
-        Opening::Opened(t) => print_front(&cells, t.chars),
-        Opening::Refused(k, place) => refused(k, place),
+        Opening::Opened(t) => print_front(&rt, &cells, t.chars),
+        Opening::Refused(k, place) => refused(&rt, k, place),
     }
 }

@@ -2,12 +2,14 @@
 // What it prints is defined in crates/runs/specs/Print.antt, and `print` is proved to give it; one byte more than is taken tells a longer input.
 
 #![tactic(auto)]
-use printing::print;
 
-fn main() {
+use printing::print;
+use std::io;
+
+fn main(rt: HostRuntime) -> io::Result<()> {
     let mut input = [0u8; print::MAX_INPUT + 1];
-    let n = io::read_full(0, &mut input);
+    let n = say::read_full(&rt, &mut input)?;
     let mut out = [0u8; print::MAX_PRINTED];
     let k = print::print(&input[..n], &mut out);
-    io::write_all(1, &out[..k]);
+    rt.write_all(&out[..k])
 }

@@ -10,6 +10,7 @@ use lexer::token::Read;
 use lexer::token_type::TokenType;
 use runs::item;
 use scope::scope::{Scope, Slot};
+use std::io;
 use text::refusal::Refusal;
 use text::utf8::Text;
 use tokens::call::{Called, Lexer};
@@ -26,35 +27,35 @@ fn state(position: usize, pending: bool) -> Lexer {
 }
 
 // 01: 3, 5 and 6 carry something.
-fn carry(n: u32, c: u32) {
+fn carry(rt: &impl Print, n: u32, c: u32) -> io::Result<()> {
     match n {
         Refusal::NO_HEX_DIGIT | Refusal::NO_SCALAR_VALUE | Refusal::NO_SECOND_HALF => {
-            say::words(b", carry ");
-            say::hexadecimal(c);
+            say::words(rt, b", carry ")?;
+            say::hexadecimal(rt, c)
         }
-        _ => {}
+        _ => Ok(()),
     }
 }
 
-fn token(k: u32, place: usize) {
-    told::number(b"token ", k as usize);
-    told::number(b" at ", place);
+fn token(rt: &impl Print, k: u32, place: usize) -> io::Result<()> {
+    told::number(rt, b"token ", k as usize)?;
+    told::number(rt, b" at ", place)
 }
 
 // What was read, and its place.
-fn read(r: Read, place: usize) {
+fn read(rt: &impl Print, r: Read, place: usize) -> io::Result<()> {
     match r {
-        Read::Plain(k) => token(k, place),
-        Read::Boolean(_) => token(TokenType::BOOLEAN, place),
-        Read::Numeric(_, _, _, _) => token(TokenType::NUMERIC, place),
+        Read::Plain(k) => token(rt, k, place),
+        Read::Boolean(_) => token(rt, TokenType::BOOLEAN, place),
+        Read::Numeric(_, _, _, _) => token(rt, TokenType::NUMERIC, place),
         Read::Chars(k, n) => {
-            token(k, place);
-            told::number(b", value cells ", n);
+            token(rt, k, place)?;
+            told::number(rt, b", value cells ", n)
         }
         Read::Refused(n, c) => {
-            told::refused(n);
-            told::number(b" at ", place);
-            carry(n, c);
+            told::refused(rt, n)?;
+            told::number(rt, b" at ", place)?;
+            carry(rt, n, c)
         }
     }
 }
@@ -67,26 +68,26 @@ fn value_cells(r: Read) -> usize {
     }
 }
 
-fn state_after(l: Lexer) {
-    told::number(b"; position ", l.position);
-    told::number(b", flags ", item::flag_bits(l.flags) as usize);
+fn state_after(rt: &impl Print, l: Lexer) -> io::Result<()> {
+    told::number(rt, b"; position ", l.position)?;
+    told::number(rt, b", flags ", item::flag_bits(l.flags) as usize)?;
     if l.pending {
-        say::words(b", start due");
-        return;
+        return say::words(rt, b", start due");
     }
-    say::words(b", no start due");
+    say::words(rt, b", no start due")
 }
 
 // The answer for an output that was filled before the call; whether scratch is zero after it.
-fn answer(c: Called, out: &[u32], zero: bool) {
+fn answer(rt: &impl Print, c: Called, out: &[u32], zero: bool) -> io::Result<()> {
     let r = c.read;
-    read(r, c.place);
-    state_after(c.next);
+    read(rt, r, c.place)?;
+    state_after(rt, c.next)?;
     told::kept(
+        rt,
         b"; rest of output",
         filled::is_filled(out, value_cells(r), FILL),
-    );
-    told::cleared(zero);
+    )?;
+    told::cleared(rt, zero)
 }
 
 // The call on a lexer in a local, which is lent to it.
@@ -129,6 +130,7 @@ fn called(
 
 // A call on the first n characters, with so many cells of output and scratch lent.
 fn call_front(
+    rt: &impl Print,
     lends: bool,
     l: Lexer,
     text: &[u32],
@@ -138,15 +140,15 @@ fn call_front(
     output: usize,
     free: &mut [u32],
     scratch: usize,
-) {
+) -> io::Result<()> {
     if text.len() < n {
-        return;
+        return Ok(());
     }
     if out.len() < output {
-        return;
+        return Ok(());
     }
     if free.len() < scratch {
-        return;
+        return Ok(());
     }
     let slots = lent::slots();
     let names = lent::names();
@@ -161,11 +163,12 @@ fn call_front(
         &mut free[..scratch],
     );
     let zero = filled::is_filled(&free[..scratch], 0, 0);
-    answer(c, out, zero);
+    answer(rt, c, out, zero)
 }
 
 // A call on so many times `a`.
 fn host(
+    rt: &impl Print,
     lends: bool,
     position: usize,
     pending: bool,
@@ -173,12 +176,13 @@ fn host(
     contexts: usize,
     output: usize,
     scratch: usize,
-) {
-    told::numbers(&[position, n, contexts, output, scratch]);
+) -> io::Result<()> {
+    told::numbers(rt, &[position, n, contexts, output, scratch])?;
     let text = lent::text(0x61);
     let mut out = lent::cells();
     let mut free = lent::cells();
     call_front(
+        rt,
         lends,
         state(position, pending),
         &text,
@@ -188,30 +192,31 @@ fn host(
         output,
         &mut free,
         scratch,
-    );
+    )
 }
 
 // 01: 1, 12, 10, 9. In the first calls the causes behind hold, too.
-fn hosts(lends: bool) {
+fn hosts(rt: &impl Print, lends: bool) -> io::Result<()> {
     let n = Text::MAX_CHARS;
-    host(lends, n + 2, false, n + 1, 33, 0, 0);
-    host(lends, 3, false, 2, 33, 0, 0);
-    host(lends, 2, false, 2, 33, 0, 0);
-    host(lends, 1, false, 2, 1, 1, 4);
-    host(lends, 1, false, 2, 1, 2, 3);
-    host(lends, 1, false, 2, 1, 2, 4);
-    host(lends, 0, true, 2, 1, 1, 4);
-    host(lends, 0, true, 2, 1, 2, 4);
-    host(lends, 0, false, n + 1, 1, n + 1, 2 * n + 2);
-    host(lends, 0, false, n, 1, n, 2 * n);
-    host(lends, 0, false, 0, 1, 0, 0);
+    host(rt, lends, n + 2, false, n + 1, 33, 0, 0)?;
+    host(rt, lends, 3, false, 2, 33, 0, 0)?;
+    host(rt, lends, 2, false, 2, 33, 0, 0)?;
+    host(rt, lends, 1, false, 2, 1, 1, 4)?;
+    host(rt, lends, 1, false, 2, 1, 2, 3)?;
+    host(rt, lends, 1, false, 2, 1, 2, 4)?;
+    host(rt, lends, 0, true, 2, 1, 1, 4)?;
+    host(rt, lends, 0, true, 2, 1, 2, 4)?;
+    host(rt, lends, 0, false, n + 1, 1, n + 1, 2 * n + 2)?;
+    host(rt, lends, 0, false, n, 1, n, 2 * n)?;
+    host(rt, lends, 0, false, 0, 1, 0, 0)
 }
 
 // A call from the third of n characters on, which are at most 16.
-pub fn behind(lends: bool, text: &[u32], n: usize) {
+pub fn behind(rt: &impl Print, lends: bool, text: &[u32], n: usize) -> io::Result<()> {
     let mut out = [FILL; 16];
     let mut free = [FILL; 32];
     call_front(
+        rt,
         lends,
         state(2, false),
         text,
@@ -221,12 +226,15 @@ pub fn behind(lends: bool, text: &[u32], n: usize) {
         n,
         &mut free,
         2 * (n % 32),
-    );
+    )
 }
 
-pub fn tried() {
-    say::words(b"Token calls: position, characters, contexts, output, scratch\n");
-    hosts(false);
-    say::words(b"Token calls on a lent lexer, the same\n");
-    hosts(true);
+pub fn tried(rt: &impl Print) -> io::Result<()> {
+    say::words(
+        rt,
+        b"Token calls: position, characters, contexts, output, scratch\n",
+    )?;
+    hosts(rt, false)?;
+    say::words(rt, b"Token calls on a lent lexer, the same\n")?;
+    hosts(rt, true)
 }

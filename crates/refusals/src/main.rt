@@ -2,6 +2,7 @@
 // The file `stdout` has what 01 says.
 
 #![tactic(auto)]
+
 mod filled; // filled.rt: whether slices are as before
 mod lent; // lent.rt: what is lent
 mod lexing; // lexing.rt: the token call
@@ -13,11 +14,13 @@ mod running; // running.rt: a run
 mod scoping; // scoping.rt: the scope calls
 mod told; // told.rt: what is said of answers and slices
 
-fn main() {
-    opening::tried();
-    scoping::tried();
-    lexing::tried();
-    running::tried();
-    repairing::tried();
-    paging::tried();
+use std::io;
+
+fn main(rt: HostRuntime) -> io::Result<()> {
+    opening::tried(&rt)?;
+    scoping::tried(&rt)?;
+    lexing::tried(&rt)?;
+    running::tried(&rt)?;
+    repairing::tried(&rt)?;
+    paging::tried(&rt)
 }

@@ -4,6 +4,7 @@ use crate::{filled, told};
 use records::page;
 use records::page::Page;
 use runs::item::Item;
+use std::io;
 use text::refusal::Refusal;
 
 fn wide(n: u32) -> usize {
@@ -11,75 +12,85 @@ fn wide(n: u32) -> usize {
 }
 
 // The types of the first item and of a page's last.
-fn ends(first: u32, last: u32) {
-    told::number(b"; first ", wide(first));
-    told::number(b", last ", wide(last));
+fn ends(rt: &impl Print, first: u32, last: u32) -> io::Result<()> {
+    told::number(rt, b"; first ", wide(first))?;
+    told::number(rt, b", last ", wide(last))
 }
 
 // The answer, and the ends: those of the rows, or 0 where the page is as it was.
-fn answer(p: Page) {
+fn answer(rt: &impl Print, p: Page) -> io::Result<()> {
     if p.refusal == Refusal::NONE {
-        say::words(b"read");
+        say::words(rt, b"read")?;
     } else {
-        told::refused(p.refusal);
+        told::refused(rt, p.refusal)?;
     }
-    ends(p.items[0].number, p.items[Page::ITEMS - 1].number);
-    say::words(b"\n");
+    ends(rt, p.items[0].number, p.items[Page::ITEMS - 1].number)?;
+    say::words(rt, b"\n")
 }
 
 // A page of the first n rows.
-fn page_front(rows: &[[u32; Item::NUMBERS]], n: usize) {
+fn page_front(rt: &impl Print, rows: &[[u32; Item::NUMBERS]], n: usize) -> io::Result<()> {
     if rows.len() < n {
-        return;
+        return Ok(());
     }
-    told::numbers(&[n]);
-    answer(page::page_of(&rows[..n]));
+    told::numbers(rt, &[n])?;
+    answer(rt, page::page_of(&rows[..n]))
 }
 
 // The ends of a page in the rows, and whether the rows behind it are as before.
-fn written(rows: &[[u32; Item::NUMBERS]]) {
+fn written(rt: &impl Print, rows: &[[u32; Item::NUMBERS]]) -> io::Result<()> {
     if rows.len() < Page::ITEMS {
-        return;
+        return Ok(());
     }
-    say::words(b"written");
-    ends(rows[0][Item::NUMBER], rows[Page::ITEMS - 1][Item::NUMBER]);
+    say::words(rt, b"written")?;
+    ends(
+        rt,
+        rows[0][Item::NUMBER],
+        rows[Page::ITEMS - 1][Item::NUMBER],
+    )?;
     told::kept(
+        rt,
         b"; rest of rows",
         filled::are_filled(rows, Page::ITEMS, FILL),
-    );
+    )
 }
 
 // A page written to the first n of rows that were filled before.
-fn rows_front(p: Page, rows: &mut [[u32; Item::NUMBERS]], n: usize) {
+fn rows_front(
+    rt: &impl Print,
+    p: Page,
+    rows: &mut [[u32; Item::NUMBERS]],
+    n: usize,
+) -> io::Result<()> {
     if rows.len() < n {
-        return;
+        return Ok(());
     }
-    told::numbers(&[n]);
+    told::numbers(rt, &[n])?;
     let refusal = page::rows_of(p, &mut rows[..n]);
     if refusal == Refusal::NONE {
-        written(rows);
+        written(rt, rows)?;
     } else {
-        told::refused(refusal);
-        told::kept(b"; rows", filled::are_filled(rows, 0, FILL));
+        told::refused(rt, refusal)?;
+        told::kept(rt, b"; rows", filled::are_filled(rows, 0, FILL))?;
     }
-    say::words(b"\n");
+    say::words(rt, b"\n")
 }
 
 // A page of items of type 5 written to rows.
-fn page_rows(n: usize) {
+fn page_rows(rt: &impl Print, n: usize) -> io::Result<()> {
     let read = [[5; Item::NUMBERS]; Page::ITEMS];
     let mut rows = [[FILL; Item::NUMBERS]; Page::ITEMS + 1];
-    rows_front(page::page_of(&read), &mut rows, n);
+    rows_front(rt, page::page_of(&read), &mut rows, n)
 }
 
-pub fn tried() {
-    say::words(b"Rows read into a page of 32 items: rows\n");
+pub fn tried(rt: &impl Print) -> io::Result<()> {
+    say::words(rt, b"Rows read into a page of 32 items: rows\n")?;
     let rows = [[FILL; Item::NUMBERS]; Page::ITEMS + 1];
-    page_front(&rows, Page::ITEMS - 1);
-    page_front(&rows, Page::ITEMS);
-    page_front(&rows, Page::ITEMS + 1);
-    say::words(b"A page of 32 items written to rows: rows\n");
-    page_rows(Page::ITEMS - 1);
-    page_rows(Page::ITEMS);
-    page_rows(Page::ITEMS + 1);
+    page_front(rt, &rows, Page::ITEMS - 1)?;
+    page_front(rt, &rows, Page::ITEMS)?;
+    page_front(rt, &rows, Page::ITEMS + 1)?;
+    say::words(rt, b"A page of 32 items written to rows: rows\n")?;
+    page_rows(rt, Page::ITEMS - 1)?;
+    page_rows(rt, Page::ITEMS)?;
+    page_rows(rt, Page::ITEMS + 1)
 }

@@ -3,46 +3,60 @@ use crate::lent::FILL;
 use crate::{filled, opening, told};
 use runs::call::Made;
 use runs::item::Item;
+use std::io;
 
 // The first n rows.
-fn rows(all: &[[u32; Item::NUMBERS]], n: usize) {
+fn rows(rt: &impl Print, all: &[[u32; Item::NUMBERS]], n: usize) -> io::Result<()> {
     let mut i: usize = 0;
     while i < n {
         if all.len() <= i {
-            return;
+            return Ok(());
         }
-        say::numbers(&all[i]);
-        say::words(b"\n");
+        say::numbers(rt, &all[i])?;
+        say::words(rt, b"\n")?;
         i += 1;
     }
+    Ok(())
 }
 
 // A record; its values if they are few, else their number.
-fn made(all: &[[u32; Item::NUMBERS]], n: usize, store: &[u32], k: usize) {
-    told::number(b"rows ", n);
-    say::words(b", values");
+fn made(
+    rt: &impl Print,
+    all: &[[u32; Item::NUMBERS]],
+    n: usize,
+    store: &[u32],
+    k: usize,
+) -> io::Result<()> {
+    told::number(rt, b"rows ", n)?;
+    say::words(rt, b", values")?;
     if k < 8 {
-        opening::print_cells(store, k);
+        opening::print_cells(rt, store, k)?;
     } else {
-        told::number(b", in number ", k);
+        told::number(rt, b", in number ", k)?;
     }
-    told::kept(b"; rest of rows", filled::are_filled(all, n, FILL));
-    told::kept(b", rest of store", filled::is_filled(store, k, FILL));
+    told::kept(rt, b"; rest of rows", filled::are_filled(all, n, FILL))?;
+    told::kept(rt, b", rest of store", filled::is_filled(store, k, FILL))
 }
 
 // The answer for rows and a store that were filled before the call; whether scratch is zero after it.
-pub fn answer(r: Made, all: &[[u32; Item::NUMBERS]], store: &[u32], zero: bool) {
+pub fn answer(
+    rt: &impl Print,
+    r: Made,
+    all: &[[u32; Item::NUMBERS]],
+    store: &[u32],
+    zero: bool,
+) -> io::Result<()> {
     match r {
         Made::Record(n, k) => {
-            made(all, n, store, k);
-            told::cleared(zero);
-            rows(all, n);
+            made(rt, all, n, store, k)?;
+            told::cleared(rt, zero)?;
+            rows(rt, all, n)
         }
         Made::Refused(n) => {
-            told::refused(n);
-            told::kept(b"; rows", filled::are_filled(all, 0, FILL));
-            told::kept(b", store", filled::is_filled(store, 0, FILL));
-            told::cleared(zero);
+            told::refused(rt, n)?;
+            told::kept(rt, b"; rows", filled::are_filled(all, 0, FILL))?;
+            told::kept(rt, b", store", filled::is_filled(store, 0, FILL))?;
+            told::cleared(rt, zero)
         }
     }
 }

@@ -5,10 +5,12 @@ use lexer::flags::Flags;
 use lexer::token_type::TokenType;
 use runs::item;
 use runs::item::Item;
+use std::io;
 use text::utf8::{Opening, Text};
 
 // A run over the first n characters, with so many rows, store cells and scratch cells lent.
 fn run_front(
+    rt: &impl Print,
     text: &[u32],
     n: usize,
     flags: u32,
@@ -19,18 +21,18 @@ fn run_front(
     values: usize,
     free: &mut [u32],
     scratch: usize,
-) {
+) -> io::Result<()> {
     if text.len() < n {
-        return;
+        return Ok(());
     }
     if all.len() < items {
-        return;
+        return Ok(());
     }
     if store.len() < values {
-        return;
+        return Ok(());
     }
     if free.len() < scratch {
-        return;
+        return Ok(());
     }
     let slots = lent::slots();
     let names = lent::names();
@@ -46,47 +48,55 @@ fn run_front(
         &mut free[..scratch],
     );
     let zero = filled::is_filled(&free[..scratch], 0, 0);
-    rows::answer(made, all, store, zero);
+    rows::answer(rt, made, all, store, zero)
 }
 
 // A run over so many times `a`.
-fn host(n: usize, contexts: usize, items: usize, values: usize, scratch: usize) {
-    told::numbers(&[n, contexts, items, values, scratch]);
+fn host(
+    rt: &impl Print,
+    n: usize,
+    contexts: usize,
+    items: usize,
+    values: usize,
+    scratch: usize,
+) -> io::Result<()> {
+    told::numbers(rt, &[n, contexts, items, values, scratch])?;
     let text = lent::text(0x61);
     let mut all = lent::rows();
     let mut store = lent::cells();
     let mut free = lent::cells();
     run_front(
-        &text, n, 0, contexts, &mut all, items, &mut store, values, &mut free, scratch,
-    );
+        rt, &text, n, 0, contexts, &mut all, items, &mut store, values, &mut free, scratch,
+    )
 }
 
 // 01: 1, 10, 9. In the first calls the causes behind hold, too.
-fn hosts() {
+fn hosts(rt: &impl Print) -> io::Result<()> {
     let n = Text::MAX_CHARS;
-    host(n + 1, 33, 0, 0, 0);
-    host(2, 33, 0, 0, 0);
-    host(2, 1, 3, 2, 4);
-    host(2, 1, 4, 1, 4);
-    host(2, 1, 4, 2, 3);
-    host(2, 1, 4, 2, 4);
-    host(n + 1, 1, n + 3, n + 1, 2 * n + 2);
-    host(n, 1, n + 2, n, 2 * n);
-    host(0, 1, 2, 0, 0);
+    host(rt, n + 1, 33, 0, 0, 0)?;
+    host(rt, 2, 33, 0, 0, 0)?;
+    host(rt, 2, 1, 3, 2, 4)?;
+    host(rt, 2, 1, 4, 1, 4)?;
+    host(rt, 2, 1, 4, 2, 3)?;
+    host(rt, 2, 1, 4, 2, 4)?;
+    host(rt, n + 1, 1, n + 3, n + 1, 2 * n + 2)?;
+    host(rt, n, 1, n + 2, n, 2 * n)?;
+    host(rt, 0, 1, 2, 0, 0)
 }
 
 // A token call, by value and on a lent lexer, and a run that the text refuses.
-fn both(text: &[u32], n: usize) {
+fn both(rt: &impl Print, text: &[u32], n: usize) -> io::Result<()> {
     let mut all = [[FILL; Item::NUMBERS]; 18];
     let mut store = [FILL; 16];
     let mut free = [FILL; 32];
     let k = n % 32;
-    say::words(b": ");
-    lexing::behind(false, text, n);
-    say::words(b"  lent: ");
-    lexing::behind(true, text, n);
-    say::words(b"  run: ");
+    say::words(rt, b": ")?;
+    lexing::behind(rt, false, text, n)?;
+    say::words(rt, b"  lent: ")?;
+    lexing::behind(rt, true, text, n)?;
+    say::words(rt, b"  run: ")?;
     run_front(
+        rt,
         text,
         n,
         Flags::ALL,
@@ -97,34 +107,37 @@ fn both(text: &[u32], n: usize) {
         k,
         &mut free,
         2 * k,
-    );
+    )
 }
 
 // A text in ASCII, whose first token is `1`, and which is refused behind that.
-fn refused(bytes: &[u8]) {
+fn refused(rt: &impl Print, bytes: &[u8]) -> io::Result<()> {
     let mut cells = [0u32; 16];
     let r = text::utf8::open_bytes(bytes, &mut cells);
-    say::words(bytes);
+    say::words(rt, bytes)?;
     match r {
-        Opening::Opened(t) => both(&cells, t.chars),
-        Opening::Refused(_, _) => {}
+        Opening::Opened(t) => both(rt, &cells, t.chars),
+        Opening::Refused(_, _) => Ok(()),
     }
 }
 
 // Refusals 3, 4, 5 twice, 6, 7 and 8.
-fn texts() {
-    refused(b"1 \"\\u12\"");
-    refused(b"1 \"\\u12");
-    refused(b"1 \"\\uDC00\"");
-    refused(b"1 \"\\U110000\"");
-    refused(b"1 \"\\uD83D\\u0041\"");
-    refused(b"1 \"\\uD83D\"");
-    refused(b"1 in+");
+fn texts(rt: &impl Print) -> io::Result<()> {
+    refused(rt, b"1 \"\\u12\"")?;
+    refused(rt, b"1 \"\\u12")?;
+    refused(rt, b"1 \"\\uDC00\"")?;
+    refused(rt, b"1 \"\\U110000\"")?;
+    refused(rt, b"1 \"\\uD83D\\u0041\"")?;
+    refused(rt, b"1 \"\\uD83D\"")?;
+    refused(rt, b"1 in+")
 }
 
-pub fn tried() {
-    say::words(b"Runs: characters, contexts, rows, store, scratch\n");
-    hosts();
-    say::words(b"Refused by the text: the token call from 2 on, and the run, all flags set\n");
-    texts();
+pub fn tried(rt: &impl Print) -> io::Result<()> {
+    say::words(rt, b"Runs: characters, contexts, rows, store, scratch\n")?;
+    hosts(rt)?;
+    say::words(
+        rt,
+        b"Refused by the text: the token call from 2 on, and the run, all flags set\n",
+    )?;
+    texts(rt)
 }

@@ -1,6 +1,7 @@
 // The scope calls refused: a broken scope, list or name, and the limits.
 use crate::{filled, lent, told};
 use scope::scope::{Changed, Listed, Scope, Slot};
+use std::io;
 
 // Which call is tried.
 const PUSH: u32 = 0;
@@ -11,12 +12,12 @@ const SET_CONTEXT: u32 = 2;
 
 const ADD_PARSED_NAME: u32 = 3;
 
-fn call_name(call: u32) {
+fn call_name(rt: &impl Print, call: u32) -> io::Result<()> {
     match call {
-        PUSH => say::words(b"push "),
-        SET_ENTRY_NAME => say::words(b"set_entry_name "),
-        SET_CONTEXT => say::words(b"set_context "),
-        _ => say::words(b"add_parsed_name "),
+        PUSH => say::words(rt, b"push "),
+        SET_ENTRY_NAME => say::words(rt, b"set_entry_name "),
+        SET_CONTEXT => say::words(rt, b"set_context "),
+        _ => say::words(rt, b"add_parsed_name "),
     }
 }
 
@@ -133,10 +134,10 @@ fn said(s: Scope, contexts: usize) -> Scope {
     }
 }
 
-fn answer(r: Changed) {
+fn answer(rt: &impl Print, r: Changed) -> io::Result<()> {
     match r {
-        Changed::Done(_) => say::words(b"done"),
-        Changed::Refused(n) => told::refused(n),
+        Changed::Done(_) => say::words(rt, b"done"),
+        Changed::Refused(n) => told::refused(rt, n),
     }
 }
 
@@ -145,6 +146,7 @@ const LONG_NAME: usize = Scope::MAX_NAME + 1;
 
 // The call with a name of so many times `a` and the first entries of a list.
 fn call_front(
+    rt: &impl Print,
     call: u32,
     s: Scope,
     slots: &mut [[u32; Slot::NUMBERS]],
@@ -153,40 +155,52 @@ fn call_front(
     rows: &[[u32; Listed::NUMBERS]],
     entries: usize,
     cells: &[u32],
-) {
+) -> io::Result<()> {
     let name = [0x61u32; LONG_NAME];
     if LONG_NAME < length {
-        return;
+        return Ok(());
     }
     if rows.len() < entries {
-        return;
+        return Ok(());
     }
-    answer(made(
-        call,
-        s,
-        slots,
-        names,
-        &name[..length],
-        &rows[..entries],
-        cells,
-    ));
+    answer(
+        rt,
+        made(
+            call,
+            s,
+            slots,
+            names,
+            &name[..length],
+            &rows[..entries],
+            cells,
+        ),
+    )
 }
 
 fn kept(
+    rt: &impl Print,
     slots: &[[u32; Slot::NUMBERS]],
     slots_before: &[[u32; Slot::NUMBERS]],
     names: &[[u32; Scope::MAX_NAME]],
     names_before: &[[u32; Scope::MAX_NAME]],
-) {
-    told::kept(b"; slots", filled::same_slots(slots, slots_before));
-    told::kept(b", names", filled::same_names(names, names_before));
-    say::words(b"\n");
+) -> io::Result<()> {
+    told::kept(rt, b"; slots", filled::same_slots(slots, slots_before))?;
+    told::kept(rt, b", names", filled::same_names(names, names_before))?;
+    say::words(rt, b"\n")
 }
 
 // A call with a name of so many characters and a list of so many entries, the first of this depth, on a scope that holds so much.
-fn trial(call: u32, contexts: usize, count: usize, entries: usize, depth: u32, length: usize) {
-    call_name(call);
-    told::numbers(&[contexts, count, entries, depth as usize, length]);
+fn trial(
+    rt: &impl Print,
+    call: u32,
+    contexts: usize,
+    count: usize,
+    entries: usize,
+    depth: u32,
+    length: usize,
+) -> io::Result<()> {
+    call_name(rt, call)?;
+    told::numbers(rt, &[contexts, count, entries, depth as usize, length])?;
     let mut slots = lent::slots();
     let mut names = lent::names();
     let mut rows = [[0u32; Listed::NUMBERS]; Scope::MAX_ENTRIES + 1];
@@ -198,65 +212,72 @@ fn trial(call: u32, contexts: usize, count: usize, entries: usize, depth: u32, l
     let slots_before = slots;
     let names_before = names;
     call_front(
-        call, s, &mut slots, &mut names, length, &rows, entries, &cells,
-    );
-    kept(&slots, &slots_before, &names, &names_before);
+        rt, call, s, &mut slots, &mut names, length, &rows, entries, &cells,
+    )?;
+    kept(rt, &slots, &slots_before, &names, &names_before)
 }
 
-fn push_default(contexts: usize) {
+fn push_default(rt: &impl Print, contexts: usize) -> io::Result<()> {
     let slots = lent::slots();
     let names = lent::names();
-    say::words(b"push_default ");
-    told::numbers(&[contexts]);
-    answer(scope_calls::stack::push_default(told::empty_scope(contexts), &slots, &names));
-    say::words(b"\n");
+    say::words(rt, b"push_default ")?;
+    told::numbers(rt, &[contexts])?;
+    answer(
+        rt,
+        scope_calls::stack::push_default(told::empty_scope(contexts), &slots, &names),
+    )?;
+    say::words(rt, b"\n")
 }
 
-fn pop(contexts: usize) {
+fn pop(rt: &impl Print, contexts: usize) -> io::Result<()> {
     let slots = lent::slots();
     let names = lent::names();
-    say::words(b"pop ");
-    told::numbers(&[contexts]);
-    answer(scope_calls::stack::pop(told::empty_scope(contexts), &slots, &names));
-    say::words(b"\n");
+    say::words(rt, b"pop ")?;
+    told::numbers(rt, &[contexts])?;
+    answer(
+        rt,
+        scope_calls::stack::pop(told::empty_scope(contexts), &slots, &names),
+    )?;
+    say::words(rt, b"\n")
 }
 
 // 01: 10, then 11.
-fn pushes() {
-    trial(PUSH, 33, 0, 1, 0, 0);
-    trial(PUSH, 1, 0, 1, 1, 0);
-    trial(PUSH, 32, 0, 1, 1, 0);
-    trial(PUSH, 32, 0, 1, 0, 0);
-    trial(PUSH, 1, 0, 513, 0, 0);
-    trial(PUSH, 2, 512, 1, 0, 0);
+fn pushes(rt: &impl Print) -> io::Result<()> {
+    trial(rt, PUSH, 33, 0, 1, 0, 0)?;
+    trial(rt, PUSH, 1, 0, 1, 1, 0)?;
+    trial(rt, PUSH, 32, 0, 1, 1, 0)?;
+    trial(rt, PUSH, 32, 0, 1, 0, 0)?;
+    trial(rt, PUSH, 1, 0, 513, 0, 0)?;
+    trial(rt, PUSH, 2, 512, 1, 0, 0)
 }
 
-fn namings() {
-    trial(SET_ENTRY_NAME, 33, 0, 0, 0, 1);
-    trial(SET_ENTRY_NAME, 1, 0, 0, 0, 129);
-    trial(SET_ENTRY_NAME, 2, 512, 0, 0, 129);
-    trial(SET_ENTRY_NAME, 2, 512, 0, 0, 1);
-    trial(SET_CONTEXT, 33, 0, 1, 0, 1);
-    trial(SET_CONTEXT, 1, 0, 1, 0, 129);
-    trial(SET_CONTEXT, 1, 0, 512, 1, 1);
-    trial(SET_CONTEXT, 1, 0, 512, 0, 1);
+fn namings(rt: &impl Print) -> io::Result<()> {
+    trial(rt, SET_ENTRY_NAME, 33, 0, 0, 0, 1)?;
+    trial(rt, SET_ENTRY_NAME, 1, 0, 0, 0, 129)?;
+    trial(rt, SET_ENTRY_NAME, 2, 512, 0, 0, 129)?;
+    trial(rt, SET_ENTRY_NAME, 2, 512, 0, 0, 1)?;
+    trial(rt, SET_CONTEXT, 33, 0, 1, 0, 1)?;
+    trial(rt, SET_CONTEXT, 1, 0, 1, 0, 129)?;
+    trial(rt, SET_CONTEXT, 1, 0, 512, 1, 1)?;
+    trial(rt, SET_CONTEXT, 1, 0, 512, 0, 1)
 }
 
-fn parsings() {
-    trial(ADD_PARSED_NAME, 33, 0, 0, 0, 1);
-    trial(ADD_PARSED_NAME, 1, 0, 0, 0, 129);
-    trial(ADD_PARSED_NAME, 1, 256, 0, 0, 129);
-    trial(ADD_PARSED_NAME, 1, 256, 0, 0, 1);
+fn parsings(rt: &impl Print) -> io::Result<()> {
+    trial(rt, ADD_PARSED_NAME, 33, 0, 0, 0, 1)?;
+    trial(rt, ADD_PARSED_NAME, 1, 0, 0, 0, 129)?;
+    trial(rt, ADD_PARSED_NAME, 1, 256, 0, 0, 129)?;
+    trial(rt, ADD_PARSED_NAME, 1, 256, 0, 0, 1)
 }
 
-pub fn tried() {
+pub fn tried(rt: &impl Print) -> io::Result<()> {
     say::words(
+        rt,
         b"Scope calls: contexts, entries or parsed names held, entries of a list, depth of the first, characters of a name\n",
-    );
-    push_default(33);
-    push_default(32);
-    pop(33);
-    pushes();
-    namings();
-    parsings();
+    )?;
+    push_default(rt, 33)?;
+    push_default(rt, 32)?;
+    pop(rt, 33)?;
+    pushes(rt)?;
+    namings(rt)?;
+    parsings(rt)
 }

@@ -2,6 +2,7 @@
 ghost use Rattle.std.specs.Prelude.{◌≡◌};
 
 use scope::scope::Scope;
+use std::io;
 
 // A scope of so many empty contexts; over 32 it is broken.
 pub fn empty_scope(contexts: usize) -> Scope
@@ -15,43 +16,41 @@ pub fn empty_scope(contexts: usize) -> Scope
 }
 
 // A number behind a word.
-pub fn number(front: &[u8], n: usize) {
-    say::words(front);
-    say::decimal(n);
+pub fn number(rt: &impl Print, front: &[u8], n: usize) -> io::Result<()> {
+    say::words(rt, front)?;
+    say::decimal(rt, n)
 }
 
 // What a trial is made with, in the order that the heading gives.
-pub fn numbers(all: &[usize]) {
+pub fn numbers(rt: &impl Print, all: &[usize]) -> io::Result<()> {
     let mut i: usize = 0;
     while i < all.len() {
         if 0 < i {
-            say::words(b" ");
+            say::words(rt, b" ")?;
         }
-        say::decimal(all[i]);
+        say::decimal(rt, all[i])?;
         i += 1;
     }
-    say::words(b": ");
+    say::words(rt, b": ")
 }
 
 // The number of a refusal.
-pub fn refused(n: u32) {
-    number(b"refused with ", n as usize);
+pub fn refused(rt: &impl Print, n: u32) -> io::Result<()> {
+    number(rt, b"refused with ", n as usize)
 }
 
 // Whether what is named is as before the call.
-pub fn kept(what: &[u8], same: bool) {
-    say::words(what);
+pub fn kept(rt: &impl Print, what: &[u8], same: bool) -> io::Result<()> {
+    say::words(rt, what)?;
     if same {
-        say::words(b" as before");
-        return;
+        return say::words(rt, b" as before");
     }
-    say::words(b" CHANGED");
+    say::words(rt, b" CHANGED")
 }
 
-pub fn cleared(zero: bool) {
+pub fn cleared(rt: &impl Print, zero: bool) -> io::Result<()> {
     if zero {
-        say::words(b", scratch zero\n");
-        return;
+        return say::words(rt, b", scratch zero\n");
     }
-    say::words(b", scratch NOT ZERO\n");
+    say::words(rt, b", scratch NOT ZERO\n")
 }

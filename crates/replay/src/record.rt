@@ -3,6 +3,7 @@ ghost use Rattle.std.specs.Prelude.{◌≡◌, ◌<◌, length};
 ghost use Rattle.replay.specs.Printed as spec;
 
 use runs::item::Item;
+use std::io;
 use text::refusal::Refusal;
 
 fn wide(n: u32) -> usize {
@@ -22,12 +23,13 @@ fn panicked(last: [u32; Item::NUMBERS]) -> usize
     }
 }
 
-fn rows(all: &[[u32; Item::NUMBERS]]) {
+fn rows(rt: &impl Print, all: &[[u32; Item::NUMBERS]]) -> io::Result<()> {
     let mut i: usize = 0;
     while i < all.len() {
-        say::numbers(&all[i]);
+        say::numbers(rt, &all[i])?;
         i += 1;
     }
+    Ok(())
 }
 
 // How many cells from a place on are alike.
@@ -46,64 +48,79 @@ fn alike(cells: &[u32], from: usize) -> usize
     i - from
 }
 
-// Four or more cells that are alike are one code point and their number; answers how many cells were printed.
+// Four or more cells that are alike are one code point and their number; answers how many cells are printed at once.
 fn piece(cells: &[u32], i: usize) -> usize
     requires { i < length cells.now }
     ensures { result ≡ spec.piece_at cells.now i }
 {
     let n = alike(cells, i);
-    say::hexadecimal(cells[i]);
     if n < 4 {
         return 1;
     }
-    say::words(b"*");
-    say::hexadecimal((n % 65_536) as u32);
     n
 }
 
+// So many cells that are this one: it alone, or it and their number.
+fn print_piece(rt: &impl Print, cell: u32, n: usize) -> io::Result<()> {
+    say::hexadecimal(rt, cell)?;
+    if n < 4 {
+        return Ok(());
+    }
+    say::words(rt, b"*")?;
+    say::hexadecimal(rt, (n % 65_536) as u32)
+}
+
 // The value store, `-` if it is empty.
-fn store(cells: &[u32]) {
-    say::words(b" ");
+fn store(rt: &impl Print, cells: &[u32]) -> io::Result<()> {
+    say::words(rt, b" ")?;
     if cells.len() == 0 {
-        say::words(b"-");
+        say::words(rt, b"-")?;
     }
     let mut i: usize = 0;
     while i < cells.len() {
         if 0 < i {
-            say::words(b",");
+            say::words(rt, b",")?;
         }
-        i += piece(cells, i);
+        let n = piece(cells, i);
+        print_piece(rt, cells[i], n)?;
+        i += n;
     }
-    say::words(b"\n");
+    say::words(rt, b"\n")
 }
 
-fn whole(all: &[[u32; Item::NUMBERS]], cells: &[u32]) {
+fn whole(rt: &impl Print, all: &[[u32; Item::NUMBERS]], cells: &[u32]) -> io::Result<()> {
     let n = all.len();
     if n == 0 {
-        return;
+        return Ok(());
     }
-    say::words(b" ");
-    say::decimal(panicked(all[n - 1]));
-    say::words(b" ");
-    say::decimal(n);
-    rows(all);
-    store(cells);
+    say::words(rt, b" ")?;
+    say::decimal(rt, panicked(all[n - 1]))?;
+    say::words(rt, b" ")?;
+    say::decimal(rt, n)?;
+    rows(rt, all)?;
+    store(rt, cells)
 }
 
 // The record of so many rows and store cells.
-pub fn print(all: &[[u32; Item::NUMBERS]], count: usize, cells: &[u32], n: usize) {
+pub fn print(
+    rt: &impl Print,
+    all: &[[u32; Item::NUMBERS]],
+    count: usize,
+    cells: &[u32],
+    n: usize,
+) -> io::Result<()> {
     if all.len() < count {
-        return;
+        return Ok(());
     }
     if cells.len() < n {
-        return;
+        return Ok(());
     }
-    whole(&all[..count], &cells[..n]);
+    whole(rt, &all[..count], &cells[..n])
 }
 
 // A refused run; no case has one.
-pub fn refused(n: u32) {
-    say::words(b" refused with ");
-    say::decimal(wide(n));
-    say::words(b"\n");
+pub fn refused(rt: &impl Print, n: u32) -> io::Result<()> {
+    say::words(rt, b" refused with ")?;
+    say::decimal(rt, wide(n))?;
+    say::words(rt, b"\n")
 }
