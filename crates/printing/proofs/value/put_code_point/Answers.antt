@@ -1,0 +1,29 @@
+-- By the test, a comma first.
+use native.Mathlib.Omega.{arith}
+use Rattle.printing.proofs.FurtherLaws.{further_more}
+use Rattle.printing.proofs.value.put_code_point.Goals as goal
+
+pub put_cell-j-requires : goal.put_cell-j-requires
+put_cell-j-requires c = let r = rw c.if-behind.true at c.requires in omega arith
+
+pub put_number-requires : goal.put_number-requires
+put_number-requires c =
+    let k = c in
+    let r = rw (k.if-behind.true, ← c.wide.ensures.0) at k.requires in
+    omega arith
+
+pub returns-then-behind : goal.returns-then-behind
+returns-then-behind c =
+    let k = c in
+    rw (k.if-behind.true, ← c.wide.ensures.0) (further_more k.put_cell-j.ensures c.put_number.ensures)
+
+pub put_number-requires-2 : goal.put_number-requires-2
+put_number-requires-2 c =
+    let k = c in
+    let r = rw (k.if-behind.false, ← c.wide-2.ensures.0) at k.requires in
+    omega arith
+
+pub returns : goal.returns
+returns c =
+    let k = c in
+    rw (k.if-behind.false, ← k.wide-2.ensures.0) c.put_number-2.ensures

@@ -1,0 +1,9 @@
+-- The part of the store, its ends cut to the store.
+use Rattle.printing.proofs.ValueLaws.{value_is}
+use Rattle.printing.proofs.value.value_of.Goals as goal
+
+pub returns : goal.returns
+returns c =
+    let k = c in
+    let a = k.args in
+    value_is a.store.now a.t1 k.wide.ensures.0 c.wide-2.ensures.0 k.least-a.ensures c.least.ensures

@@ -1,0 +1,6 @@
+-- The flags are told by their definition; every other field is a cell of the row.
+use Rattle.records.proofs.StoredLaws.{stored_flags}
+use Rattle.records.proofs.stored.item_of.Goals as goal
+
+pub returns : goal.returns
+returns c = stored_flags c.args.t1 c.bit_flags-flags.ensures

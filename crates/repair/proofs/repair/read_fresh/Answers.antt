@@ -1,0 +1,16 @@
+-- The row that was written is written again, moved by the part's place.
+use native.Mathlib.Omega.{arith}
+use Rattle.repair.proofs.FreshLaws.{place_written, reach_written, fresh-is}
+use Rattle.repair.proofs.repair.read_fresh.Goals as goal
+
+pub put_moved-requires : goal.put_moved-requires
+put_moved-requires c =
+    let k = c in
+    let n = c.read_item-next.ensures.0 in
+    (omega arith, omega (arith, c.wide.ensures.0, place_written n k.requires.5, n.within, k.requires.0), omega (arith, c.wide-2.ensures.0, reach_written n k.requires.5, n.far, k.requires.0), omega (arith, k.requires.4))
+
+pub returns : goal.returns
+returns c =
+    let k = c in
+    let n = c.read_item-next.ensures.0 in
+    (fresh-is n k.requires.5 k.args.base (omega (arith, c.wide.ensures.0, place_written n k.requires.5)) (omega (arith, c.wide-2.ensures.0, reach_written n k.requires.5)) c.put_moved.ensures, c.read_item-next.ensures.1)
