@@ -10,7 +10,7 @@ pub put_refused-requires : goal.put_refused-requires
 put_refused-requires c = omega (arith, refused_short 1 0)
 
 pub returns-then-bytes-gt-MAX_INPUT : goal.returns-then-bytes-gt-MAX_INPUT
-returns-then-bytes-gt-MAX_INPUT c = rw (← printed_long c.args.bytes.now (omega arith)) c.Put-refused.ensures
+returns-then-bytes-gt-MAX_INPUT c = rw (← printed_long c.args.bytes.now (omega arith)) c.put_refused.ensures
 
 pub put_record-requires : goal.put_record-requires
 put_record-requires c =
@@ -19,7 +19,7 @@ put_record-requires c =
     omega (arith, t.within, t.short)
 
 pub put_refused-requires-in-Refused : goal.put_refused-requires-in-Refused
-put_refused-requires-in-Refused c = let e = c.opening-in-Refused-1.given.0 in omega (arith, refused_short e.0 e.1.0)
+put_refused-requires-in-Refused c = omega (arith, refused_short c.in-Refused.n c.in-Refused.place)
 
 pub returns-in-Opened : goal.returns-in-Opened
 returns-in-Opened c =

@@ -6,4 +6,4 @@ pub returns : goal.returns
 returns c =
     let k = c in
     let a = k.args in
-    value_is a.store.now a.t1 k.wide.ensures.0 c.wide-2.ensures.0 k.least-a.ensures c.least.ensures
+    value_is a.store.now a.row k.wide.ensures.0 c.wide-2.ensures.0 k.least-a.ensures c.least.ensures
