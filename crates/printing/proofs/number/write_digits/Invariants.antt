@@ -1,5 +1,4 @@
 -- One record carries the digits written so far.
-use Prim.Native.Nat.{◌-◌}
 use Rattle.printing.proofs.DigitLaws.{Digits}
 use Rattle.printing.proofs.number.write_digits.Given as goal
 

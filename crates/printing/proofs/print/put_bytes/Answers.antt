@@ -2,7 +2,6 @@
 use mathlib.Core.Path.{◌≡◌, ◌∙◌}
 use native.Mathlib.Omega.{arith}
 use native.Mathlib.Nat.{zero-add}
-use Prim.Native.Nat.{◌-◌}
 use Rattle.reading.proofs.Front.{copying_none, copying_more, front-first}
 use Rattle.printing.proofs.print.put_bytes.Goals as goal
 

@@ -1,7 +1,6 @@
 -- A piece for each code point.
 use mathlib.Core.Path.{ap}
 use native.Mathlib.Omega.{arith}
-use Prim.Native.Nat.{◌-◌}
 use lib.ListN.{length}
 use Rattle.printing.proofs.FurtherLaws.{further_same}
 use Rattle.printing.proofs.PieceLaws.{writing_none, writing_room, writing_more, writing_all}
