@@ -15,8 +15,7 @@ loop-left-init c = (refl, refl, λ h g. (c.opened-s.ensures.1 _ _ h g, rw (c.rea
 
 pub loop-left-preserved : goal.loop-left-preserved
 loop-left-preserved c =
-    let k = c.call-c.ensures in
-    (
+    let k = c.call-c.ensures in (
       omega arith,
       omega arith,
       λ h g. (k.whole (c.loop-left.invariant.2 h g).0, (c.loop-left.invariant.2 h g).1 ∙ calls_more _ _ _ _ (omega arith) k.next (k.model (c.loop-left.invariant.2 h g).0)),

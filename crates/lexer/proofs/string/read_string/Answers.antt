@@ -32,15 +32,17 @@ pub loop-i-smaller : goal.loop-i-smaller
 loop-i-smaller c =
     let k = c.loop-i.invariant in
     let l : (c.loop-i.i < c.if-plain_at.i) × (c.if-plain_at.i ≤ length c.args.rest.now) =
-    elim c.if-plain_at.branch
-      [ then-plain_at w ↦ rw w.i-is (walking_on k (c.plain_at.ensures w.if-plain_at.true).piece refl)
-      | else-plain_at+in-Char w ↦ rw w.i-is (walking_on k w.read_piece-p.ensures w.in-Char.is) ]
+    elim c.if-plain_at.branch [
+      | then-plain_at w ↦ rw w.i-is (walking_on k (c.plain_at.ensures w.if-plain_at.true).piece refl)
+      | else-plain_at+in-Char w ↦ rw w.i-is (walking_on k w.read_piece-p.ensures w.in-Char.is)
+    ]
     in
     omega arith
 
 pub loop-i-preserved : goal.loop-i-preserved
 loop-i-preserved c =
     let k = c.loop-i.invariant in
-    elim c.if-plain_at.branch
-      [ then-plain_at w ↦ rw w.i-is (walking_more k (c.plain_at.ensures w.if-plain_at.true).piece refl)
-      | else-plain_at+in-Char w ↦ rw w.i-is (walking_more k w.read_piece-p.ensures w.in-Char.is) ]
+    elim c.if-plain_at.branch [
+      | then-plain_at w ↦ rw w.i-is (walking_more k (c.plain_at.ensures w.if-plain_at.true).piece refl)
+      | else-plain_at+in-Char w ↦ rw w.i-is (walking_more k w.read_piece-p.ensures w.in-Char.is)
+    ]

@@ -56,15 +56,17 @@ pub loop-out-smaller : goal.loop-out-smaller
 loop-out-smaller c =
     let k = c.loop-out.invariant.walk in
     let l : (c.loop-out.i < c.if-plain_at.i) × (c.if-plain_at.i ≤ length c.args.rest.now) =
-    elim c.if-plain_at.branch
-      [ then-plain_at w ↦ rw w.i-is (walking_on k (c.plain_at.ensures w.if-plain_at.true).piece refl)
-      | else-plain_at+in-Char w ↦ rw w.i-is (walking_on k w.read_piece-p.ensures w.in-Char.is) ]
+    elim c.if-plain_at.branch [
+      | then-plain_at w ↦ rw w.i-is (walking_on k (c.plain_at.ensures w.if-plain_at.true).piece refl)
+      | else-plain_at+in-Char w ↦ rw w.i-is (walking_on k w.read_piece-p.ensures w.in-Char.is)
+    ]
     in
     omega arith
 
 pub loop-out-preserved : goal.loop-out-preserved
 loop-out-preserved c =
     let k = c.loop-out.invariant in
-    elim c.if-plain_at.branch
-      [ then-plain_at w ↦ rw (w.out-is, w.i-is) (writing_more k (c.plain_at.ensures w.if-plain_at.true).piece (omega arith) refl)
-      | else-plain_at+in-Char w ↦ rw (w.out-is, w.i-is) (writing_more k w.read_piece-p.ensures (omega arith) w.in-Char.is) ]
+    elim c.if-plain_at.branch [
+      | then-plain_at w ↦ rw (w.out-is, w.i-is) (writing_more k (c.plain_at.ensures w.if-plain_at.true).piece (omega arith) refl)
+      | else-plain_at+in-Char w ↦ rw (w.out-is, w.i-is) (writing_more k w.read_piece-p.ensures (omega arith) w.in-Char.is)
+    ]
