@@ -1,9 +1,4 @@
 pub mod StoredLaws
-pub mod StoredType
-pub mod PageType
 pub mod Filling
-pub mod Lending
-pub mod Transfer
-pub mod CopyAll
 pub mod ReadBack
 pub mod ItemsCases

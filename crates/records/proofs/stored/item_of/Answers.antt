@@ -3,4 +3,4 @@ use Rattle.records.proofs.StoredLaws.{stored_flags}
 use Rattle.records.proofs.stored.item_of.Goals as goal
 
 pub returns : goal.returns
-returns c = stored_flags c.args.t1 c.bit_flags-flags.ensures
+returns c = stored_flags c.args.row c.bit_flags-flags.ensures
