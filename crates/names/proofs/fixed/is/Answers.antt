@@ -1,6 +1,5 @@
 -- By the lengths, then cell by cell.
 use mathlib.Core.Path.{refl, sym, ◌∙◌}
-use Prim.Native.Nat.{◌-◌}
 use Rattle.names.proofs.SameLaws.{same_length, same_more, same_other, same_end}
 use native.Mathlib.Omega.{arith}
 use Rattle.names.proofs.fixed.is.Goals as goal

@@ -1,5 +1,4 @@
 -- One record carries what is written and what is left to read.
-use Prim.Native.Nat.{◌-◌}
 use Rattle.names.proofs.TightenLaws.{tightening_none, tightening_more, tightening_all}
 use native.Mathlib.Omega.{arith}
 use Rattle.names.proofs.flatten.tighten.Goals as goal

@@ -1,5 +1,4 @@
 -- What has been counted and what is left make the whole.
-use Prim.Native.Nat.{◌-◌}
 use Rattle.names.proofs.InkLaws.{inking_none, inking_more, inking_all}
 use native.Mathlib.Omega.{arith}
 use Rattle.names.proofs.ink.ink_of.Goals as goal

@@ -1,5 +1,4 @@
 -- One record carries what is trimmed so far.
-use Prim.Native.Nat.{◌-◌}
 use Rattle.names.proofs.TrimLaws.{front_none, front_more, front_stop, front-end}
 use native.Mathlib.Omega.{arith}
 use Rattle.names.proofs.trim.trim_front.Goals as goal

@@ -1,7 +1,6 @@
 -- Each cell passed was a scalar value.
 use mathlib.Core.Path.{refl}
 use mathlib.Core.Bool.{false≢true}
-use Prim.Native.Nat.{◌-◌}
 use Rattle.scope.proofs.BrokenLaws.{scalar_end, scalar_more, low_scalar}
 use native.Mathlib.Omega.{arith}
 use Rattle.scope.proofs.broken.all_low.Goals as goal

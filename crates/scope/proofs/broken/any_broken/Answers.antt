@@ -1,6 +1,5 @@
 -- No entry passed is broken.
 use mathlib.Core.Path.{refl, sym, ◌∙◌}
-use Prim.Native.Nat.{◌-◌}
 use Rattle.scope.specs.Rows.{earlier}
 use Rattle.scope.proofs.SearchLaws.{found, missed}
 use Rattle.scope.proofs.BrokenLaws.{broken_step, broken_end}

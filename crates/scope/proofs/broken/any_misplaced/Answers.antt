@@ -1,6 +1,5 @@
 -- Each context passed lies between the one before it and the count.
 use mathlib.Core.Path.{refl, sym, ◌∙◌}
-use Prim.Native.Nat.{◌-◌}
 use Rattle.scope.proofs.BrokenLaws.{misplaced_end, misplaced_low, misplaced_high, misplaced_more}
 use native.Mathlib.Omega.{arith}
 use Rattle.scope.proofs.broken.any_misplaced.Goals as goal

@@ -1,6 +1,5 @@
 -- No entry passed has its name again.
 use mathlib.Core.Path.{refl, sym, ◌∙◌}
-use Prim.Native.Nat.{◌-◌}
 use Rattle.scope.proofs.SearchLaws.{found, missed}
 use Rattle.scope.proofs.BrokenLaws.{repeated_step, repeated_end}
 use native.Mathlib.Omega.{arith}

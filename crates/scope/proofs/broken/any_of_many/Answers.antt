@@ -1,12 +1,9 @@
 -- No name stands twice among the entries passed, and each has left its mark. The mark is that of the entry before i, whose name was looked for where the mark was taken.
 use mathlib.Core.Path.{◌≡◌, refl, sym, ◌∙◌}
-use mathlib.Core.Bool.{◌&&◌, false}
 use Prim.Native.Nat.{◌+◌, ◌-◌}
-use lib.ListN.{drop, get_or}
+use lib.ListN.{drop}
 use Rattle.scope.specs.Lent.{held}
-use Rattle.scope.specs.Mark.{mark_of}
 use Rattle.scope.specs.Rows.{entry_at}
-use Rattle.scope.specs.Settled.{is_repeated}
 use Rattle.scope.proofs.HeldLaws.{short_at}
 use Rattle.scope.proofs.MarkLaws.{passed_start, passed_more, passed_twice, before, twice}
 use native.Mathlib.Omega.{arith}

@@ -1,5 +1,5 @@
 -- No name stands twice among the entries passed, and each has left its mark.
-use Prim.Native.Nat.{◌-◌, ◌≤◌}
+use Prim.Native.Nat.{◌≤◌}
 use lib.ListN.{drop}
 use Rattle.scope.specs.Lent.{held}
 use Rattle.scope.proofs.MarkLaws.{Passed}

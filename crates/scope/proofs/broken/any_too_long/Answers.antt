@@ -1,6 +1,5 @@
 -- Each slot passed has a length that its row has.
 use mathlib.Core.Path.{refl, sym, ◌∙◌}
-use Prim.Native.Nat.{◌-◌}
 use borrow.Author.Tests.{lt-ltb, le-ltb}
 use Rattle.scope.proofs.SearchLaws.{found, missed}
 use Rattle.scope.proofs.HeldLaws.{too_long_step, too_long_start, too_long_end}

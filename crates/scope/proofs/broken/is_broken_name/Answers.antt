@@ -1,7 +1,5 @@
 -- The length is tested first, then whether all cells are low; else each cell passed was a scalar value.
 use mathlib.Core.Path.{refl, sym, ◌∙◌}
-use Prim.Native.Nat.{◌-◌}
-use borrow.Author.Tests.{not-true, not-false}
 use Rattle.scope.proofs.BrokenLaws.{name_long, name_scalar, scalar_end, scalar_more, name_bad}
 use native.Mathlib.Omega.{arith}
 use Rattle.scope.proofs.broken.is_broken_name.Goals as goal

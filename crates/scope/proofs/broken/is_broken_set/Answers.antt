@@ -1,6 +1,5 @@
 -- No name passed is broken or there again.
 use mathlib.Core.Path.{refl, sym, ◌∙◌}
-use Prim.Native.Nat.{◌-◌}
 use Rattle.scope.proofs.ParsedLaws.{short_parsed, set-end, set_broken, set_twice, set_more}
 use native.Mathlib.Omega.{arith}
 use Rattle.scope.proofs.broken.is_broken_set.Goals as goal

@@ -1,6 +1,5 @@
 -- No name passed is the one looked for.
 use mathlib.Core.Path.{refl, sym, ◌∙◌}
-use Prim.Native.Nat.{◌-◌}
 use lib.ListN.{take}
 use Rattle.scope.proofs.SearchLaws.{found, missed}
 use Rattle.scope.proofs.ParsedLaws.{short_parsed, member-end, member-step}

@@ -1,6 +1,5 @@
 -- No entry passed ends the level or has the name.
 use mathlib.Core.Path.{refl, sym, ◌∙◌}
-use Prim.Native.Nat.{◌-◌}
 use Rattle.scope.specs.Rows.{entry_at}
 use Rattle.scope.proofs.SearchLaws.{found, missed}
 use Rattle.scope.proofs.HeldLaws.{short_at}

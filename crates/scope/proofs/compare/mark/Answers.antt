@@ -1,6 +1,5 @@
 -- What is left of the name carries its mark on.
 use mathlib.Core.Path.{refl, sym, ◌∙◌}
-use Prim.Native.Nat.{◌-◌}
 use Rattle.scope.proofs.MarkLaws.{mark_end, mark_step}
 use native.Mathlib.Omega.{arith}
 use Rattle.scope.proofs.compare.mark.Goals as goal

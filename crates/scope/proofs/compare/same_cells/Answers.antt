@@ -1,6 +1,5 @@
 -- What is left to compare is the same question as at the start.
 use mathlib.Core.Path.{refl, sym, ◌∙◌}
-use Prim.Native.Nat.{◌-◌}
 use Rattle.scope.proofs.CompareLaws.{fronts_differ, fronts_end, fronts_more, fronts_other}
 use native.Mathlib.Omega.{arith}
 use Rattle.scope.proofs.compare.same_cells.Goals as goal

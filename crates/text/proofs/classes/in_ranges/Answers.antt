@@ -1,6 +1,5 @@
 -- One record carries the search through the rising ranges.
 use native.Mathlib.Omega.{arith}
-use Prim.Native.Nat.{◌-◌}
 use Rattle.text.proofs.RangeLaws.{search_none, search_below, search_in, search_more, search_end}
 use Rattle.text.proofs.classes.in_ranges.Goals as goal
 

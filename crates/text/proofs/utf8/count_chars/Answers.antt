@@ -1,7 +1,6 @@
 -- One record carries the characters so far.
 use native.Mathlib.Omega.{arith}
 use mathlib.Core.Path.{sym, ◌∙◌}
-use Prim.Native.Nat.{◌-◌}
 use Rattle.text.proofs.Utf8Laws.{read_within}
 use Rattle.text.proofs.Utf8Loops.{going_none, going_more, count_bad, count-all}
 use Rattle.text.proofs.utf8.count_chars.Goals as goal

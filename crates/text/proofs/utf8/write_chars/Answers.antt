@@ -1,7 +1,6 @@
 -- One record carries the characters so far and the output's front.
 use native.Mathlib.Omega.{arith}
 use mathlib.Core.Path.{sym, ◌∙◌}
-use Prim.Native.Nat.{◌-◌}
 use Rattle.text.proofs.Utf8Laws.{read_within}
 use Rattle.text.proofs.Utf8Loops.{writing_none, writing_room, writing_more, writing_bad, writing_all}
 use Rattle.text.proofs.utf8.write_chars.Goals as goal

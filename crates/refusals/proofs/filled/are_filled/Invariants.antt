@@ -1,0 +1,13 @@
+-- What is left is filled if all is.
+use mathlib.Core.Path.{◌≡◌}
+use Prim.Native.Nat.{◌-◌}
+use lib.Dec.{eqb}
+use lib.ListN.{length, drop}
+use Rattle.refusals.specs.Filled.{all}
+use Rattle.refusals.proofs.filled.are_filled.Given as goal
+
+abbrev pub invariant-loop-i : goal.invariant-loop-i
+invariant-loop-i l = all (all (λ c. eqb c l.x)) (drop l.from l.rows) ≡ all (all (λ c. eqb c l.x)) (drop l.i l.rows)
+
+abbrev pub decreases-loop-i : goal.decreases-loop-i
+decreases-loop-i l = length l.rows - l.i

@@ -1,0 +1,16 @@
+-- A lent front is as long as its end says.
+use native.Mathlib.Omega.{arith}
+use lib.ListN.{length-take}
+use Rattle.refusals.proofs.lexing.call_front.Goals as goal
+
+pub slice_bounds-called-end : goal.slice_bounds-called-end
+slice_bounds-called-end g c = simp length-take (omega arith)
+
+pub slice_bounds-called-end-5 : goal.slice_bounds-called-end-5
+slice_bounds-called-end-5 g c = simp length-take (omega arith)
+
+pub slice_bounds-called-end-7 : goal.slice_bounds-called-end-7
+slice_bounds-called-end-7 g c = simp length-take (omega arith)
+
+pub slice_bounds-is_filled-end-2 : goal.slice_bounds-is_filled-end-2
+slice_bounds-is_filled-end-2 g c = simp length-take (omega arith)

@@ -1,0 +1,11 @@
+-- The rows stay as many; the cell counts within 1,024.
+use native.Mathlib.Omega.{arith}
+use Prim.Native.Nat.{◌-◌}
+use lib.ListN.{length-set}
+use Rattle.refusals.proofs.scoping.write_list.Goals as goal
+
+pub loop-i-smaller : goal.loop-i-smaller
+loop-i-smaller c = simp length-set (omega arith)
+
+pub loop-i-preserved : goal.loop-i-preserved
+loop-i-preserved c = simp length-set (omega arith)
