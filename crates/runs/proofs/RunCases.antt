@@ -1,6 +1,5 @@
 -- Records computed as the record program prints them: 01's `.5`, every form of a value, refusals, and repairs.
 use mathlib.Core.Path.{◌≡◌, refl}
-use mathlib.Core.Bool.{true}
 use mathlib.Core.List.{List, [], ◌∷◌, map}
 use Prim.Native.Nat.{ℕ}
 use Prim.Native.String.{String}

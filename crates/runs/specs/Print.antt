@@ -1,5 +1,5 @@
 -- The record program: what it prints for the bytes that it reads.
-use Rattle.std.specs.Prelude.{Bool, true, false, cond, List, [], ◌∷◌, ◌++◌, ℕ, zero, suc, ◌+◌, ◌/◌, ◌%◌, ltb, eqb, length, take, drop}
+use Rattle.std.specs.Prelude.{Bool, cond, List, [], ◌∷◌, ◌++◌, ℕ, zero, suc, ◌+◌, ◌/◌, ◌%◌, ltb, eqb, length, take, drop}
 use Rattle.reading.specs.Codes.{codes}
 use Rattle.reading.specs.Cells.{is_one_of}
 use Rattle.text.specs.Limits.{max_chars}

@@ -1,6 +1,5 @@
 -- The search has come to i; what is lent to the comparison is the name there.
 use mathlib.Core.Path.{sym, ◌∙◌}
-use Prim.Native.Nat.{◌-◌}
 use Rattle.functions.proofs.FunctionLaws.{search_none, search_hit, search_more, search_end}
 use native.Mathlib.Omega.{arith}
 use Rattle.functions.proofs.functions.is_among.Goals as goal

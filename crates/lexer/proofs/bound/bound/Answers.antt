@@ -1,5 +1,4 @@
 -- The loop has added up what the first m parts hold; the part that passes the cap ends it.
-use Prim.Native.Nat.{◌-◌}
 use Rattle.lexer.proofs.BoundLaws.{bounding_none, bounding_over, bounding_more, bounded_all, step_on}
 use native.Mathlib.Omega.{arith}
 use Rattle.lexer.proofs.bound.bound.Goals as goal

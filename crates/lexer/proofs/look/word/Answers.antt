@@ -1,5 +1,4 @@
 -- One record carries the cells passed.
-use Prim.Native.Nat.{◌-◌}
 use Rattle.reading.proofs.Passed.{along_none, along_more, along_end}
 use native.Mathlib.Omega.{arith}
 use Rattle.lexer.proofs.look.word.Goals as goal

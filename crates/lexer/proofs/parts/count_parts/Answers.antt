@@ -1,5 +1,4 @@
 -- The loop stands behind the parts counted so far, and any walk from there is one from the start.
-use Prim.Native.Nat.{◌-◌}
 use Rattle.lexer.proofs.WalkLaws.{passing_none, passing_more, passing_on, passing_over}
 use native.Mathlib.Omega.{arith}
 use Rattle.lexer.proofs.parts.count_parts.Goals as goal

@@ -1,6 +1,5 @@
 -- The loop has written the parts before i, and the spelling of the rest goes on from there.
 use Rattle.lexer.proofs.PartLaws.{spelling_none, spelling_on, spelling-room, spelling_more, spelling_over, spelling-end}
-use Prim.Native.Nat.{◌-◌}
 use native.Mathlib.Omega.{arith}
 use Rattle.lexer.proofs.parts.write_parts.Goals as goal
 

@@ -1,5 +1,4 @@
 -- One record carries the reading through the inside.
-use Prim.Native.Nat.{◌-◌}
 use Rattle.lexer.proofs.SkipLaws.{closing_none, closing_more, closing_found, closing_end}
 use native.Mathlib.Omega.{arith}
 use Rattle.lexer.proofs.skip.block_end.Goals as goal

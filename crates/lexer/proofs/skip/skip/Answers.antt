@@ -1,6 +1,5 @@
 -- One record carries the reading over comments.
 use mathlib.Core.Path.{subst}
-use Prim.Native.Nat.{◌-◌}
 use Rattle.lexer.specs.Answers.{Commented}
 use Rattle.lexer.proofs.SkipLaws.{skipping_none, skipping_more, skipping_end}
 use native.Mathlib.Omega.{arith}

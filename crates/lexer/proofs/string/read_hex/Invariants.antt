@@ -1,6 +1,5 @@
 -- The loop has read the digits before `at`, and their value stays below the power of 16 that they allow.
 use Rattle.lexer.proofs.StringLaws.{HexAt}
-use Prim.Native.Nat.{◌-◌}
 use Rattle.lexer.proofs.string.read_hex.Given as goal
 
 abbrev pub invariant-loop-left : goal.invariant-loop-left

@@ -1,6 +1,6 @@
 -- The loop has read the pieces before i, and counted them.
 use Rattle.lexer.proofs.StringLaws.{walking_none, walking_more, walking_on, walking_ended, walking_undef, walking_over, walking_refused}
-use Prim.Native.Nat.{◌-◌, ◌<◌, ◌≤◌}
+use Prim.Native.Nat.{◌<◌, ◌≤◌}
 use mathlib.Core.Path.{refl}
 use lib.ListN.{length}
 use native.Mathlib.Omega.{arith}

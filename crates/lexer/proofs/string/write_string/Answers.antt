@@ -1,7 +1,7 @@
 -- The loop has written the pieces before i; what else ends it is no string.
 use Rattle.lexer.proofs.StringLaws.{walking_on, walking_undef, walking_over, walking_refused, writing_none, writing_more, writing_ended, writing_none_ended}
 use mathlib.Core.Path.{refl}
-use Prim.Native.Nat.{◌-◌, ◌<◌, ◌≤◌}
+use Prim.Native.Nat.{◌<◌, ◌≤◌}
 use lib.ListN.{length}
 use native.Mathlib.Omega.{arith}
 use Rattle.lexer.proofs.string.write_string.Goals as goal

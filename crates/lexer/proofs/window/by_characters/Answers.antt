@@ -1,6 +1,5 @@
 -- The cells before j are filled.
 use mathlib.Core.Path.{◌≡◌, refl, sym, ◌∙◌}
-use Prim.Native.Nat.{◌-◌}
 use lib.ListN.{length-set}
 use lib.Seq.{take_all}
 use Rattle.lexer.specs.Shown.{window_of}

@@ -1,6 +1,5 @@
 -- The cells before j are filled, if they are plain.
 use mathlib.Core.Path.{◌≡◌, refl, sym, ◌∙◌}
-use Prim.Native.Nat.{◌-◌}
 use lib.ListN.{length-set}
 use lib.Seq.{take_all}
 use Rattle.lexer.specs.Shown.{window_of}

@@ -1,6 +1,5 @@
 -- No entry passed is broken, so each has its parent.
 use mathlib.Core.Path.{refl, sym, ◌∙◌}
-use Prim.Native.Nat.{◌-◌}
 use Rattle.scope.specs.Rows.{earlier}
 use Rattle.lists.proofs.ParentLaws.{parented_more}
 use Rattle.scope.proofs.SearchLaws.{found, missed}

@@ -1,6 +1,5 @@
 -- Each span passed lies in the cells.
 use mathlib.Core.Path.{refl, sym, ◌∙◌}
-use Prim.Native.Nat.{◌-◌}
 use Rattle.scope.proofs.ListLaws.{outside_end, outside_here, outside_more}
 use native.Mathlib.Omega.{arith}
 use Rattle.lists.proofs.list.any_outside.Goals as goal

@@ -1,7 +1,6 @@
 -- No entry passed ends the level or has the name.
 use mathlib.Core.Path.{refl, sym, ◌∙◌}
 use mathlib.Core.List.{[]}
-use Prim.Native.Nat.{◌-◌}
 use lib.ListN.{get_or}
 use Rattle.scope.specs.Lent.{spanned}
 use Rattle.scope.proofs.SearchLaws.{found, missed}

@@ -1,5 +1,4 @@
 -- So many names were first seen among those passed; no more than one over the limit are counted.
-use Prim.Native.Nat.{◌-◌}
 use Rattle.lists.proofs.FirstLaws.{firsts-all, firsts-step, firsts-end}
 use native.Mathlib.Omega.{arith}
 use Rattle.lists.proofs.list.remaining.Goals as goal

@@ -1,7 +1,6 @@
 -- Behind the first m parts, none of which is `in`.
 use mathlib.Core.List.{[]}
 use Rattle.naming.proofs.CutLaws.{placed_at}
-use Prim.Native.Nat.{◌-◌}
 use Rattle.naming.proofs.CutLaws.{seeking_none, seeking_found, seeking_more, seeking_over, seeking_end}
 use native.Mathlib.Omega.{arith}
 use Rattle.naming.proofs.name.before_in.Goals as goal

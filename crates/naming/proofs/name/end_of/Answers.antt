@@ -1,5 +1,4 @@
 -- Behind the first k parts, whose end this is.
-use Prim.Native.Nat.{◌-◌}
 use Rattle.naming.proofs.CutLaws.{stepping_none, stepping_more, end-all, end_over}
 use native.Mathlib.Omega.{arith}
 use Rattle.naming.proofs.name.end_of.Goals as goal

@@ -1,5 +1,4 @@
 -- The cells before j are zero, the others as they were.
-use Prim.Native.Nat.{◌-◌}
 use Rattle.naming.proofs.PrefixLaws.{clearing_none, clearing_more, clearing_all}
 use native.Mathlib.Omega.{arith}
 use Rattle.naming.proofs.prefix.clear.Goals as goal

@@ -2,7 +2,6 @@
 use borrow.Author.Tests.{not-true, not-false}
 use mathlib.Core.Path.{refl, sym, ap, ◌∙◌, subst}
 use Rattle.lexer.specs.Fit.{Clear}
-use Prim.Native.Nat.{◌-◌}
 use lib.ListN.{length}
 use Rattle.runs.proofs.RanLaws.{onward_none, onward_more}
 use native.Mathlib.Omega.{arith}

@@ -1,6 +1,5 @@
 -- So many stay among those passed.
 use mathlib.Core.Path.{ap}
-use Prim.Native.Nat.{◌-◌}
 use lib.ListN.{length}
 use Rattle.scope.proofs.HeldLaws.{short_at}
 use Rattle.scope_calls.proofs.NamingLaws.{without_end, left_step}

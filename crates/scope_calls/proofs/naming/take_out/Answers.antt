@@ -1,5 +1,4 @@
 -- The entries passed that stay stand together; those to come are as they were.
-use Prim.Native.Nat.{◌-◌}
 use Rattle.scope_calls.proofs.NamingLaws.{going_none, going_all, going_short, going_more}
 use native.Mathlib.Omega.{arith}
 use Rattle.scope_calls.proofs.naming.take_out.Goals as goal

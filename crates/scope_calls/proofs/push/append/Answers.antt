@@ -1,5 +1,4 @@
 -- The entries passed that stay are written.
-use Prim.Native.Nat.{◌-◌}
 use Rattle.scope_calls.proofs.AppendLaws.{going_none, going_all, going_more, going_room}
 use native.Mathlib.Omega.{arith}
 use Rattle.scope_calls.proofs.push.append.Goals as goal

@@ -1,6 +1,5 @@
 -- The entries passed are of contexts below k.
 use mathlib.Core.Path.{refl, sym, ◌∙◌}
-use Prim.Native.Nat.{◌-◌}
 use Rattle.scope.specs.Lent.{held}
 use Rattle.scope_calls.proofs.StackLaws.{under_stop, top_stop, under_more, top_more, under-end, top-end}
 use native.Mathlib.Omega.{arith}

@@ -1,5 +1,4 @@
 -- The search has come to word k, which begins as the window does, with its reach.
-use Prim.Native.Nat.{◌-◌}
 use Rattle.words.proofs.KeywordLaws.{search_none, search_row, search_more, search_hit, search_end, skipped_first, skipped_next}
 use native.Mathlib.Omega.{arith}
 use Rattle.words.proofs.keywords.first_of.Goals as goal

@@ -1,6 +1,5 @@
 -- The letters before j stand in the window.
 use mathlib.Core.Path.{sym, ◌∙◌}
-use Prim.Native.Nat.{◌-◌}
 use Rattle.words.proofs.KeywordLaws.{leading_none, leading_more, leading_off, leading_end}
 use native.Mathlib.Omega.{arith}
 use Rattle.words.proofs.keywords.leads.Goals as goal
