@@ -1,6 +1,6 @@
 /* The proved FEEL lexer for C and C++: opening a text, names in scope, tokens, runs and repair.
  *
- * Link libfeel_lexer.a, which `rt staticlib feel_lexer` writes to target/staticlib (x86-64, Linux).
+ * Link libfeel_lexer.a, which `rt lib` in crates/feel_lexer writes to crates/feel_lexer/out (x86-64, Linux).
  * examples/c/tokens.c puts names in scope, runs, repairs and asks for tokens, and says how it is compiled.
  *
  * Memory. The functions allocate nothing and keep nothing between calls: all memory is lent by the

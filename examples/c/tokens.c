@@ -1,7 +1,8 @@
 /* Prints the tokens of a FEEL rule, edits it, repairs the tokens and holds them against a fresh run
  * and against the token call.
  *
- *     cc -std=c99 -I include examples/c/tokens.c target/staticlib/libfeel_lexer.a -o target/tokens
+ *     mkdir -p target
+ *     cc -std=c99 -I include examples/c/tokens.c crates/feel_lexer/out/libfeel_lexer.a -o target/tokens
  *     target/tokens 'if row width-gutter > 10 then 1 else 2' 'row width' gutter
  *
  * The first argument is the rule (- or none: standard input), the others are names in scope. Before

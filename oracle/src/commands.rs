@@ -29,8 +29,8 @@ oracle run                            reads cases in their text form, prints eac
 /// The definitions' token types.
 const TOKEN_TYPES: &str = concat!(env!("CARGO_MANIFEST_DIR"), "/../crates/lexer/specs/TokenType.antt");
 
-/// Where `rt check print_record` puts the record program.
-const PROGRAM: &str = concat!(env!("CARGO_MANIFEST_DIR"), "/../target/bin/print_record");
+/// Where `rt run` in crates/print_record puts the record program.
+const PROGRAM: &str = concat!(env!("CARGO_MANIFEST_DIR"), "/../crates/print_record/out/print_record");
 
 pub fn main() -> ExitCode {
     keep_panics();
