@@ -21,10 +21,8 @@ const EQUATIONS: &str = include_str!("equations.txt");
 
 /// What each file of equations imports; CRATE is its crate.
 const HEAD: &str = "\
-use mathlib.Core.Path.{_≡_, refl}
-use mathlib.Core.List.{List, [], _∷_}
-use Prim.Native.Nat.{ℕ}
-use Rattle·CRATE·specs.specs.Answer.{answer, run, front, repaired, pushed, popped, named, context, parsedName}
+use Rattle.std.specs.Prelude.{◌≡◌, refl, List, [], ◌∷◌, ℕ}
+use Rattle.CRATE.specs.Answer.{answer, run, front, repaired, pushed, popped, named, context, parsed_name}
 ";
 
 /// An equation: what is asked of the definitions, the record that they should give, and the case that it comes from.
@@ -66,7 +64,7 @@ impl Equation {
     }
 
     fn theorem(&self, i: usize) -> String {
-        format!("\n-- {}\npub case-{i} : answer ({}) ≡ {}\nunfolding answer\ncase-{i} = refl\n", self.case, self.asked, number_form(&self.record))
+        format!("\n-- {}\npub case_{i} : answer ({}) ≡ {}\nunfolding answer\ncase_{i} = refl\n", self.case, self.asked, number_form(&self.record))
     }
 }
 
@@ -89,7 +87,7 @@ fn scope(calls: &[ScopeCall]) -> String {
         ScopeCall::Pop => "popped".into(),
         ScopeCall::SetEntryName(name) => format!("named {}", text(name)),
         ScopeCall::SetContext(name, list) => format!("context {} {}", text(name), entries(list)),
-        ScopeCall::AddParsedName(name) => format!("parsedName {}", text(name)),
+        ScopeCall::AddParsedName(name) => format!("parsed_name {}", text(name)),
     }))
 }
 
@@ -140,7 +138,7 @@ impl Scratch {
                 continue;
             }
             for Module { name: module, text, .. } in &modules {
-                uses += &format!("use Rattle·{name}.specs.{module} as {name}-{module}\n");
+                uses += &format!("use Rattle.{name}.specs.{module} as {name}-{module}\n");
                 let closed = text.lines().filter_map(|line| line.trim().strip_prefix("unfoldable pub ")?.split(' ').next());
                 unfoldable += &closed.map(|definition| format!(" {name}-{module}.{definition}")).collect::<String>();
             }
@@ -174,7 +172,7 @@ impl Scratch {
             (format!("Cases{k}"), HEAD.replace("CRATE", name) + &theorems)
         });
         self.add_crate(name, iter::once(("Answer".to_string(), self.answer.clone())).chain(cases))?;
-        let checked = Command::new("rt").args(["check", name]).current_dir(&self.folder).env("RT_CUT", "0").env("RT_JOBS", "1").output()?;
+        let checked = Command::new("rt").arg("check").current_dir(self.folder.join("crates").join(name)).output()?;
         let said = String::from_utf8_lossy(&checked.stdout) + String::from_utf8_lossy(&checked.stderr);
         refusals(&said, checked.status.success(), equations.len())
     }
@@ -207,11 +205,10 @@ fn used_modules(committed: &Path) -> io::Result<Vec<Module>> {
     Ok(used)
 }
 
-/// Crate and module of an import, which reads `use Rattle·text.specs.Classes.{..}`, or `use Rattle·text·specs.specs.Ranges.{..}` inside the crate.
+/// Crate and module of an import of the repository's, which reads `use Rattle.text.specs.Classes.{..}`. The library's own stay as they are.
 fn imported(line: &str) -> Option<(String, String)> {
-    let (package, module) = line.strip_prefix("use Rattle·")?.split_once("specs.")?;
-    let module = module.strip_prefix("specs.").unwrap_or(module);
-    Some((package.trim_end_matches(['.', '·']).to_string(), module.split(['.', ' ']).next()?.to_string()))
+    let (package, module) = line.strip_prefix("use Rattle.")?.split_once(".specs.")?;
+    (package != "std").then_some((package.to_string(), module.split(['.', ' ']).next()?.to_string()))
 }
 
 /// The equations that the checker refused. An error of another kind, or none where the crate is not proved, makes the check void.
@@ -220,7 +217,7 @@ fn refusals(said: &str, proved: bool, count: usize) -> io::Result<Vec<(usize, St
     let mut refused: Vec<(usize, String)> = vec![];
     for line in said.lines() {
         if let Some((_, words)) = line.split_once("error: ") {
-            let case = words.strip_prefix("`case-").and_then(|rest| rest.split('`').next()).and_then(|digits| digits.parse().ok());
+            let case = words.strip_prefix("`case_").and_then(|rest| rest.split('`').next()).and_then(|digits| digits.parse().ok());
             let case = case.filter(|i| *i < count).ok_or_else(|| void("an error is about no case"))?;
             if refused.iter().all(|(i, _)| *i != case) {
                 refused.push((case, "(what it computes to is not shown)".into()));
