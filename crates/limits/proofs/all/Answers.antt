@@ -1,6 +1,5 @@
 -- Each line ends behind its beginning; the rows of the scope stay as many.
 use native.Mathlib.Omega.{arith}
-use Prim.Native.Nat.{◌-◌}
 use Rattle.cases.proofs.LineLaws.{line-within}
 use Rattle.limits.proofs.all.Goals as goal
 

@@ -1,6 +1,5 @@
 -- Each turn reads one entry: a row, and the cells of its name.
 use native.Mathlib.Omega.{arith}
-use Prim.Native.Nat.{◌-◌}
 use Rattle.cases.proofs.EntryLaws.{listing_none, listing_read, listing_end}
 use Rattle.cases.proofs.calls.read_list.Goals as goal
 

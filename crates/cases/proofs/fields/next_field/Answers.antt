@@ -1,6 +1,5 @@
 -- The field behind the next space is the same from every byte that is passed.
 use native.Mathlib.Omega.{arith}
-use Prim.Native.Nat.{◌-◌}
 use mathlib.Core.Path.{refl, sym, ◌∙◌}
 use Rattle.cases.proofs.FieldLaws.{next_end, next_here, next_more}
 use Rattle.cases.proofs.fields.next_field.Goals as goal

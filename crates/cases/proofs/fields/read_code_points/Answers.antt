@@ -1,7 +1,6 @@
 -- Each turn reads one code point and passes a comma.
 use native.Mathlib.Omega.{arith}
 use mathlib.Core.Path.{sym, ◌∙◌}
-use Prim.Native.Nat.{◌-◌}
 use lib.Dec.{eqb}
 use Rattle.reading.proofs.Cell.{cell_there}
 use Rattle.cases.proofs.PointLaws.{reading_none, reading_more, reading_last, reading_end, point_up}

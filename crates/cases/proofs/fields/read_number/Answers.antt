@@ -1,6 +1,5 @@
 -- Each digit goes behind the number so far, and no other byte is passed.
 use native.Mathlib.Omega.{arith}
-use Prim.Native.Nat.{◌-◌}
 use mathlib.Core.Path.{ap, ◌∙◌}
 use Rattle.cases.specs.Fields.{digit_value}
 use Rattle.cases.proofs.FieldLaws.{digits_none, digits_stop, digits-end, digits_out, digits_next}

@@ -1,6 +1,5 @@
 -- Each byte that is passed stands in the line.
 use native.Mathlib.Omega.{arith}
-use Prim.Native.Nat.{◌-◌}
 use Rattle.reading.proofs.Passed.{along_none}
 use Rattle.cases.proofs.LineLaws.{line_more, line_stop, line_over}
 use Rattle.cases.proofs.lines.line_end.Goals as goal

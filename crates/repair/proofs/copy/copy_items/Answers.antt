@@ -1,5 +1,4 @@
 -- Each row before i is written, and there is room for the rest.
-use Prim.Native.Nat.{◌-◌}
 use Rattle.runs.proofs.BehindLaws.{copying_none, copying_room, copying_space, copying_more, copying_all}
 use native.Mathlib.Omega.{arith}
 use Rattle.repair.proofs.copy.copy_items.Goals as goal

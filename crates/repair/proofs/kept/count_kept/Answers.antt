@@ -1,5 +1,4 @@
 -- Each row passed is kept.
-use Prim.Native.Nat.{◌-◌}
 use Rattle.repair.proofs.KeptLaws.{kept_none, kept_more, kept-end, kept-all}
 use native.Mathlib.Omega.{arith}
 use Rattle.repair.proofs.kept.count_kept.Goals as goal

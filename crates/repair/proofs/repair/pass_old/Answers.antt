@@ -1,5 +1,4 @@
 -- Each row passed lies before the state, so none of them matches.
-use Prim.Native.Nat.{◌-◌}
 use Rattle.repair.proofs.MatchLaws.{ahead_last, ahead_at, passed_by_test}
 use native.Mathlib.Omega.{arith}
 use Rattle.repair.proofs.repair.pass_old.Goals as goal

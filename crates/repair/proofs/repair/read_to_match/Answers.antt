@@ -1,7 +1,6 @@
 -- The loop stands before the next fresh item; it ends at the first match, or behind the item that ends the run.
 use borrow.Author.Tests.{not-true, not-false}
 use mathlib.Core.Path.{refl, sym, ap, ◌∙◌, subst}
-use Prim.Native.Nat.{◌-◌}
 use lib.ListN.{length}
 use Rattle.lexer.specs.Fit.{Clear}
 use Rattle.repair.proofs.MatchLaws.{accepted_few}

@@ -4,7 +4,6 @@ use lib.ListN.{get_or}
 use Rattle.repair.proofs.FittingLaws.{fitting}
 use Rattle.repair.proofs.RequestCodeLaws.{rows_end, rows_miss, rows_last, rows_back, rows_more}
 use mathlib.Core.Path.{refl, sym, ◌∙◌}
-use Prim.Native.Nat.{◌-◌}
 use native.Mathlib.Omega.{arith}
 use Rattle.repair.proofs.request.rows_fit.Goals as goal
 
