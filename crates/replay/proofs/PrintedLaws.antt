@@ -1,6 +1,6 @@
 -- Runs of cells that a loop passes, and how far they go.
 use mathlib.Core.Path.{◌≡◌, refl, sym}
-use mathlib.Core.Bool.{Bool, true, false, not}
+use mathlib.Core.Bool.{true}
 use mathlib.Core.List.{List, [], ◌∷◌}
 use Prim.Native.Nat.{ℕ, ◌+◌, ◌-◌, ◌≤◌, ◌<◌}
 use borrow.Author.Tests.{eq-eqb, ne_eqb, lt-ltb, le-ltb, ltb-false}
@@ -9,7 +9,7 @@ use lib.Dec.{eqb, ltb}
 use lib.ListN.{length, get_or, drop}
 use Rattle.reading.specs.Cells.{is_one_of}
 use Rattle.reading.specs.Span.{span, past}
-use Rattle.reading.proofs.Cell.{holds_in, holds_out}
+use Rattle.reading.proofs.Cell.{holds_in}
 use Rattle.reading.proofs.Test.{by_test, by_order}
 use Rattle.reading.proofs.Passed.{Along, along_more, along_end, passed}
 use Rattle.cases.proofs.LineLaws.{along_over}

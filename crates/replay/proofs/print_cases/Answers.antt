@@ -1,6 +1,5 @@
 -- Each line ends behind its beginning.
 use native.Mathlib.Omega.{arith}
-use Prim.Native.Nat.{◌-◌}
 use Rattle.cases.proofs.LineLaws.{line-within}
 use Rattle.replay.proofs.print_cases.Goals as goal
 

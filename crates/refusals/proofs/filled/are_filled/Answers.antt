@@ -1,7 +1,6 @@
 -- What is left is filled if all is.
 use mathlib.Core.Path.{refl, sym, ◌∙◌}
 use native.Mathlib.Omega.{arith}
-use Prim.Native.Nat.{◌-◌}
 use lib.Dec.{eqb}
 use mathlib.Core.List.{[]}
 use Rattle.refusals.specs.Filled.{all}

@@ -1,7 +1,6 @@
 -- What is left is filled if all is.
 use mathlib.Core.Path.{refl, sym, ◌∙◌}
 use native.Mathlib.Omega.{arith}
-use Prim.Native.Nat.{◌-◌}
 use lib.Dec.{eqb}
 use borrow.Author.Tests.{eq-eqb, ne_eqb}
 use Rattle.refusals.proofs.FilledLaws.{all_in, all_out, all_end}

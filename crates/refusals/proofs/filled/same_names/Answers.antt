@@ -1,7 +1,6 @@
 -- What is left is the same if all is.
 use mathlib.Core.Path.{refl, sym, ◌∙◌}
 use native.Mathlib.Omega.{arith}
-use Prim.Native.Nat.{◌-◌}
 use Rattle.refusals.proofs.FilledLaws.{rows_in, rows_out, rows_short, rows_end}
 use Rattle.refusals.proofs.filled.same_names.Goals as goal
 

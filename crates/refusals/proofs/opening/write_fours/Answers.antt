@@ -1,6 +1,5 @@
 -- The index stays below the end, so no number wraps.
 use native.Mathlib.Omega.{arith}
-use Prim.Native.Nat.{◌-◌}
 use lib.ListN.{length-set}
 use Rattle.refusals.proofs.opening.write_fours.Goals as goal
 

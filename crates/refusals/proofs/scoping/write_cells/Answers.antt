@@ -1,6 +1,5 @@
 -- The cells stay as many.
 use native.Mathlib.Omega.{arith}
-use Prim.Native.Nat.{◌-◌}
 use lib.ListN.{length-set}
 use Rattle.refusals.proofs.scoping.write_cells.Goals as goal
 

@@ -1,6 +1,5 @@
 -- The rows stay as many; the cell counts within 1,024.
 use native.Mathlib.Omega.{arith}
-use Prim.Native.Nat.{◌-◌}
 use lib.ListN.{length-set}
 use Rattle.refusals.proofs.scoping.write_list.Goals as goal
 

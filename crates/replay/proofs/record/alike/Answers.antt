@@ -1,6 +1,5 @@
 -- Each cell that is passed equals the first.
 use native.Mathlib.Omega.{arith}
-use Prim.Native.Nat.{◌-◌}
 use Rattle.reading.proofs.Passed.{along_none}
 use Rattle.replay.proofs.PrintedLaws.{alike_more, alike_stop, alike_over}
 use Rattle.replay.proofs.record.alike.Goals as goal

@@ -1,6 +1,5 @@
 -- Each turn prints at least one cell.
 use native.Mathlib.Omega.{arith}
-use Prim.Native.Nat.{◌-◌}
 use Rattle.replay.proofs.PrintedLaws.{piece_within}
 use Rattle.replay.proofs.record.store.Goals as goal
 
