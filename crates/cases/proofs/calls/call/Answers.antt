@@ -16,11 +16,10 @@ slice_bounds-made-end-2 c = simp length-take (omega arith)
 
 pub returns : goal.returns
 returns c =
-    let k = c in
-    let x = k.args in
+    let x = c.args in
     let m = c.made-r in
     let a = m.ensures in
-    let q = call_read x.line.now x.from k.read_decimal-number.ensures k.read_cells-n.ensures k.read_decimal-entries.ensures k.least-count.ensures _ k.read_list-next.ensures refl refl refl in
+    let q = call_read x.line.now x.from c.read_decimal-number.ensures c.read_cells-n.ensures c.read_decimal-entries.ensures c.least-count.ensures _ c.read_list-next.ensures refl refl refl in
     record {
       whole = λ h. rw c.after.ensures (still_whole m.result _ _ _ _ _ a.1 a.2 a.3 h);
       model = λ h. rw c.after.ensures (after_model m.result x.s _ _ _ _ (call_at x.line.now x.from) a.1 a.2 (a.0 ∙ ap (on_scope _) q.0) h);

@@ -13,13 +13,13 @@ pub overflow_add-total : goal.overflow_add-total
 overflow_add-total c = let l = step_on c.loop-m.invariant c.next_part-p.ensures c.in-At.is in omega arith
 
 pub returns-then-cap-total : goal.returns-then-cap-total
-returns-then-cap-total c = let d = c in let k = d in bounding_over k.loop-m.invariant (omega arith) k.next_part-p.ensures d.in-At.is c.ink_of-total.ensures (omega arith)
+returns-then-cap-total c = bounding_over c.loop-m.invariant (omega arith) c.next_part-p.ensures c.in-At.is c.ink_of-total.ensures (omega arith)
 
 pub returns-in-Over : goal.returns-in-Over
 returns-in-Over c = bounded_all _ _ _ _
 
 pub loop-m-preserved : goal.loop-m-preserved
-loop-m-preserved c = let d = c in let k = d in bounding_more k.loop-m.invariant (omega arith) k.next_part-p.ensures d.in-At.is c.ink_of-total.ensures
+loop-m-preserved c = bounding_more c.loop-m.invariant (omega arith) c.next_part-p.ensures c.in-At.is c.ink_of-total.ensures
 
 pub returns : goal.returns
 returns c = bounded_all _ _ _ _

@@ -13,17 +13,12 @@ pub is_tied-c-requires : goal.is_tied-c-requires
 is_tied-c-requires c = let l = spelling_on c.loop-m.invariant c.next_part-p.ensures c.in-At.is in omega arith
 
 pub add_part-k-requires : goal.add_part-k-requires
-add_part-k-requires c = let k = c in
-    let d = k in
-    let e = d in
-    let g = e.loop-m.invariant in
-    let l = spelling_on g e.next_part-p.ensures d.in-At.is in
-    let s = e in
-    (omega arith, omega arith, spelling-room g e.next_part-p.ensures (omega arith) s.requires.1 d.in-At.is k.trim-t.ensures c.is_tied-c.ensures)
+add_part-k-requires c = let g = c.loop-m.invariant in
+    let l = spelling_on g c.next_part-p.ensures c.in-At.is in
+    (omega arith, omega arith, spelling-room g c.next_part-p.ensures (omega arith) c.requires.1 c.in-At.is c.trim-t.ensures c.is_tied-c.ensures)
 
 pub ends_tight-tight-requires : goal.ends_tight-tight-requires
-ends_tight-tight-requires c = let d = c in
-    let l = spelling_on d.loop-m.invariant d.next_part-p.ensures d.in-At.is in
+ends_tight-tight-requires c = let l = spelling_on c.loop-m.invariant c.next_part-p.ensures c.in-At.is in
     omega arith
 
 pub shape_of-out-in-Over : goal.shape_of-out-in-Over
@@ -33,12 +28,7 @@ pub returns-in-Over : goal.returns-in-Over
 returns-in-Over c = spelling_over c.loop-m.invariant c.next_part-p.ensures c.in-Over.is
 
 pub loop-m-preserved : goal.loop-m-preserved
-loop-m-preserved c = let a = c in
-    let k = a in
-    let d = k in
-    let e = d in
-    let s = e in
-    spelling_more e.loop-m.invariant e.next_part-p.ensures (omega arith) s.requires.1 d.in-At.is k.trim-t.ensures a.is_tied-c.ensures a.add_part-k.ensures c.ends_tight-tight.ensures
+loop-m-preserved c = spelling_more c.loop-m.invariant c.next_part-p.ensures (omega arith) c.requires.1 c.in-At.is c.trim-t.ensures c.is_tied-c.ensures c.add_part-k.ensures c.ends_tight-tight.ensures
 
 pub shape_of-out : goal.shape_of-out
 shape_of-out c = c.loop-m.invariant.same

@@ -11,16 +11,16 @@ pub returns-then-rest-at : goal.returns-then-rest-at
 returns-then-rest-at c = hex_ends c.loop-left.invariant (omega arith) c.if-rest-at.true
 
 pub returns-then-d-ge16 : goal.returns-then-d-ge16
-returns-then-d-ge16 c = let k = c in hex_bad k.loop-left.invariant (omega arith) (omega arith) c.hex_to_decimal-d.ensures c.if-d-ge16.true
+returns-then-d-ge16 c = hex_bad c.loop-left.invariant (omega arith) (omega arith) c.hex_to_decimal-d.ensures c.if-d-ge16.true
 
 pub overflow_mul-value : goal.overflow_mul-value
-overflow_mul-value c = let k = c in omega (arith, cap_six (k.args.count - k.loop-left.left) (omega arith))
+overflow_mul-value c = omega (arith, cap_six (c.args.count - c.loop-left.left) (omega arith))
 
 pub overflow_add-value : goal.overflow_add-value
-overflow_add-value c = let k = c in omega (arith, cap_six (k.args.count - k.loop-left.left) (omega arith))
+overflow_add-value c = omega (arith, cap_six (c.args.count - c.loop-left.left) (omega arith))
 
 pub loop-left-preserved : goal.loop-left-preserved
-loop-left-preserved c = let k = c in hex_more k.loop-left.invariant (omega arith) (omega arith) c.hex_to_decimal-d.ensures c.if-d-ge16.false
+loop-left-preserved c = hex_more c.loop-left.invariant (omega arith) (omega arith) c.hex_to_decimal-d.ensures c.if-d-ge16.false
 
 pub returns : goal.returns
 returns c = hex_value_lem c.loop-left.invariant (omega arith)

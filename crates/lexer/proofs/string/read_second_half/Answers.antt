@@ -7,16 +7,16 @@ pub returns-then-rest-i : goal.returns-then-rest-i
 returns-then-rest-i c = second_short _ _ _ c.if-rest-i.true (omega arith)
 
 pub returns-then-l-lt-SECOND_HALF : goal.returns-then-l-lt-SECOND_HALF
-returns-then-l-lt-SECOND_HALF c = let k = c in second_low_lem _ _ _ (omega arith) k.digit_count-n.ensures.0 k.read_hex-r.ensures c.in-Value.is c.if-l-lt-SECOND_HALF.true
+returns-then-l-lt-SECOND_HALF c = second_low_lem _ _ _ (omega arith) c.digit_count-n.ensures.0 c.read_hex-r.ensures c.in-Value.is c.if-l-lt-SECOND_HALF.true
 
 pub returns-then-l-gt-LAST_SECOND_HALF : goal.returns-then-l-gt-LAST_SECOND_HALF
-returns-then-l-gt-LAST_SECOND_HALF c = let k = c in second_high_lem _ _ _ (omega arith) k.digit_count-n.ensures.0 k.read_hex-r.ensures c.in-Value.is (omega arith) c.if-l-gt-LAST_SECOND_HALF.true
+returns-then-l-gt-LAST_SECOND_HALF c = second_high_lem _ _ _ (omega arith) c.digit_count-n.ensures.0 c.read_hex-r.ensures c.in-Value.is (omega arith) c.if-l-gt-LAST_SECOND_HALF.true
 
 pub overflow_add-result-in-NoDigit : goal.overflow_add-result-in-NoDigit
 overflow_add-result-in-NoDigit c = omega (arith, bad_within c.read_hex-r.ensures c.in-NoDigit.is)
 
 pub returns-else-l-gt-LAST_SECOND_HALF : goal.returns-else-l-gt-LAST_SECOND_HALF
-returns-else-l-gt-LAST_SECOND_HALF c = let k = c in rw c.paired.ensures (second_one _ _ _ (omega arith) k.digit_count-n.ensures.0 k.read_hex-r.ensures c.in-Value.is (omega arith) (omega arith))
+returns-else-l-gt-LAST_SECOND_HALF c = rw c.paired.ensures (second_one _ _ _ (omega arith) c.digit_count-n.ensures.0 c.read_hex-r.ensures c.in-Value.is (omega arith) (omega arith))
 
 pub returns-in-NoDigit : goal.returns-in-NoDigit
-returns-in-NoDigit c = let k = c in second_bad _ _ _ (omega arith) k.digit_count-n.ensures.0 k.read_hex-r.ensures c.in-NoDigit.is
+returns-in-NoDigit c = second_bad _ _ _ (omega arith) c.digit_count-n.ensures.0 c.read_hex-r.ensures c.in-NoDigit.is

@@ -29,25 +29,25 @@ pub shape_of-out-in-Quote : goal.shape_of-out-in-Quote
 shape_of-out-in-Quote c = c.loop-out.invariant.same
 
 pub returns-in-Quote : goal.returns-in-Quote
-returns-in-Quote c = let k = c in writing_ended k.loop-out.invariant k.read_piece-p.ensures c.in-Quote.is
+returns-in-Quote c = writing_ended c.loop-out.invariant c.read_piece-p.ensures c.in-Quote.is
 
 pub shape_of-out-in-LineEnd : goal.shape_of-out-in-LineEnd
 shape_of-out-in-LineEnd c = c.loop-out.invariant.same
 
 pub returns-in-LineEnd : goal.returns-in-LineEnd
-returns-in-LineEnd c = let k = c in writing_none_ended k.loop-out.invariant k.read_piece-p.ensures (walking_undef k.loop-out.invariant.walk k.read_piece-p.ensures c.in-LineEnd.is).sees refl
+returns-in-LineEnd c = writing_none_ended c.loop-out.invariant c.read_piece-p.ensures (walking_undef c.loop-out.invariant.walk c.read_piece-p.ensures c.in-LineEnd.is).sees refl
 
 pub shape_of-out-in-TextEnd : goal.shape_of-out-in-TextEnd
 shape_of-out-in-TextEnd c = c.loop-out.invariant.same
 
 pub returns-in-TextEnd : goal.returns-in-TextEnd
-returns-in-TextEnd c = let k = c in writing_none_ended k.loop-out.invariant k.read_piece-p.ensures (walking_over k.loop-out.invariant.walk k.read_piece-p.ensures c.in-TextEnd.is).sees refl
+returns-in-TextEnd c = writing_none_ended c.loop-out.invariant c.read_piece-p.ensures (walking_over c.loop-out.invariant.walk c.read_piece-p.ensures c.in-TextEnd.is).sees refl
 
 pub shape_of-out-in-Refused : goal.shape_of-out-in-Refused
 shape_of-out-in-Refused c = c.loop-out.invariant.same
 
 pub returns-in-Refused : goal.returns-in-Refused
-returns-in-Refused c = let k = c in writing_none_ended k.loop-out.invariant k.read_piece-p.ensures (walking_refused k.loop-out.invariant.walk k.read_piece-p.ensures c.in-Refused.is).sees refl
+returns-in-Refused c = writing_none_ended c.loop-out.invariant c.read_piece-p.ensures (walking_refused c.loop-out.invariant.walk c.read_piece-p.ensures c.in-Refused.is).sees refl
 
 pub overflow_add-n : goal.overflow_add-n
 overflow_add-n c = let k = c.loop-out.invariant.walk in omega (arith, k.size)

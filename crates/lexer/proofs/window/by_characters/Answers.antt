@@ -13,11 +13,9 @@ loop-j-init c = record { upto = omega arith; size = refl; filled = λ _. refl }
 
 pub loop-j-preserved : goal.loop-j-preserved
 loop-j-preserved c =
-    let k = c in
-    record { upto = omega arith; size = simp length-set k.loop-j.invariant.size; filled = λ _. filling_more k.loop-j.invariant refl (omega arith) c.shown_at.ensures }
+    record { upto = omega arith; size = simp length-set c.loop-j.invariant.size; filled = λ _. filling_more c.loop-j.invariant refl (omega arith) c.shown_at.ensures }
 
 pub returns : goal.returns
 returns c =
-    let k = c in
-    let e : k.loop-j.j ≡ 12 = omega arith in
-    sym (take_all 12 k.loop-j.w (omega arith)) ∙ rw e at (k.loop-j.invariant.filled refl)
+    let e : c.loop-j.j ≡ 12 = omega arith in
+    sym (take_all 12 c.loop-j.w (omega arith)) ∙ rw e at (c.loop-j.invariant.filled refl)

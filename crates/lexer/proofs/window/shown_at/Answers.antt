@@ -11,7 +11,7 @@ pub returns-then-is_plain : goal.returns-then-is_plain
 returns-then-is_plain c = shown-plain _ _ (omega arith) (sym c.is_plain.ensures ∙ c.if-is_plain.true)
 
 pub returns-then-is_whitespace : goal.returns-then-is_whitespace
-returns-then-is_whitespace c = let k = c in shown_space _ _ (omega arith) k.is_whitespace.ensures c.if-is_whitespace.true
+returns-then-is_whitespace c = shown_space _ _ (omega arith) c.is_whitespace.ensures c.if-is_whitespace.true
 
 pub returns : goal.returns
-returns c = let k = c in shown_self _ _ (omega arith) k.is_whitespace.ensures c.if-is_whitespace.false
+returns c = shown_self _ _ (omega arith) c.is_whitespace.ensures c.if-is_whitespace.false

@@ -19,18 +19,16 @@ is_plain-plain-requires c = tt
 
 pub loop-j-preserved : goal.loop-j-preserved
 loop-j-preserved c =
-    let k = c in
     record {
       upto = omega arith;
-      size = simp length-set k.loop-j.invariant.size;
-      filled = copying_more k.loop-j.invariant (omega arith) (omega arith) c.is_plain-plain.ensures;
+      size = simp length-set c.loop-j.invariant.size;
+      filled = copying_more c.loop-j.invariant (omega arith) (omega arith) c.is_plain-plain.ensures;
     }
 
 pub returns-then-plain : goal.returns-then-plain
 returns-then-plain c =
-    let k = c in
-    let e : k.loop-j.j ≡ 12 = omega arith in
-    sym (take_all 12 k.loop-j.w (omega arith)) ∙ rw e at (k.loop-j.invariant.filled c.if-plain.true)
+    let e : c.loop-j.j ≡ 12 = omega arith in
+    sym (take_all 12 c.loop-j.w (omega arith)) ∙ rw e at (c.loop-j.invariant.filled c.if-plain.true)
 
 pub returns : goal.returns
 returns c = c.by_characters-2.ensures

@@ -12,18 +12,15 @@ loop-i-init c = (omega arith, refl)
 
 pub returns-then-wide-s : goal.returns-then-wide-s
 returns-then-wide-s c =
-    let k = c in
     let a = c.args in
-    sym (k.loop-i.invariant.1 ∙ same_other a.t.now a.s.now k.loop-i.i (omega arith) (omega arith) (λ e. c.if-wide-s.true (c.wide.ensures ∙ e)))
+    sym (c.loop-i.invariant.1 ∙ same_other a.t.now a.s.now c.loop-i.i (omega arith) (omega arith) (λ e. c.if-wide-s.true (c.wide.ensures ∙ e)))
 
 pub loop-i-preserved : goal.loop-i-preserved
 loop-i-preserved c =
-    let k = c in
     let a = c.args in
-    (omega arith, k.loop-i.invariant.1 ∙ same_more a.t.now a.s.now k.loop-i.i (omega arith) (omega arith) (sym c.wide.ensures ∙ c.if-wide-s.false))
+    (omega arith, c.loop-i.invariant.1 ∙ same_more a.t.now a.s.now c.loop-i.i (omega arith) (omega arith) (sym c.wide.ensures ∙ c.if-wide-s.false))
 
 pub returns : goal.returns
 returns c =
-    let k = c in
     let a = c.args in
-    sym (k.loop-i.invariant.1 ∙ same_end a.t.now a.s.now k.loop-i.i (omega arith) (omega arith))
+    sym (c.loop-i.invariant.1 ∙ same_end a.t.now a.s.now c.loop-i.i (omega arith) (omega arith))

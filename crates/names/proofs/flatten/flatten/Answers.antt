@@ -5,16 +5,8 @@ use Rattle.names.proofs.flatten.flatten.Goals as goal
 
 pub returns-then-is_flat : goal.returns-then-is_flat
 returns-then-is_flat c =
-    let k = c in
-    flat_bare (omega arith) k.trim-whole.ensures (k.is_flat.ensures c.if-is_flat.true)
+    flat_bare (omega arith) c.trim-whole.ensures (c.is_flat.ensures c.if-is_flat.true)
 
 pub returns : goal.returns
 returns c =
-    let k = c in
-    let l = k in
-    let m = l in
-    let n = m in
-    let o = n in
-    let p = o in
-    let q = p in
-    flat-all (omega arith) q.trim-whole.ensures p.tighten-a.ensures o.tighten-b.ensures n.tighten-c.ensures m.tighten-d.ensures l.tighten-e.ensures k.tighten.ensures
+    flat-all (omega arith) c.trim-whole.ensures c.tighten-a.ensures c.tighten-b.ensures c.tighten-c.ensures c.tighten-d.ensures c.tighten-e.ensures c.tighten.ensures

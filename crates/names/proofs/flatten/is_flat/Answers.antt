@@ -16,9 +16,8 @@ returns-then-is_additional_name_symbol c = λ e. absurd (false≢true e)
 
 pub loop-j-preserved : goal.loop-j-preserved
 loop-j-preserved c =
-    let k = c in
-    let a = k.args in
-    (omega arith, k.loop-j.invariant.1, bare_more a.buf.now k.loop-j.j a.end (omega arith) (omega arith) (omega arith) (sym c.is_additional_name_symbol.ensures ∙ c.if-is_additional_name_symbol.false) k.loop-j.invariant.2)
+    let a = c.args in
+    (omega arith, c.loop-j.invariant.1, bare_more a.buf.now c.loop-j.j a.end (omega arith) (omega arith) (omega arith) (sym c.is_additional_name_symbol.ensures ∙ c.if-is_additional_name_symbol.false) c.loop-j.invariant.2)
 
 pub returns : goal.returns
 returns c = λ _.

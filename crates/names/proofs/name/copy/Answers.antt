@@ -16,7 +16,6 @@ shape_of-out c = c.loop-j.invariant.1.same
 
 pub returns : goal.returns
 returns c =
-    let k = c in
-    let a = k.args in
-    let e : k.loop-j.j ≡ a.end - a.at = omega arith in
-    (refl, rw (← e) k.loop-j.invariant.1.done)
+    let a = c.args in
+    let e : c.loop-j.j ≡ a.end - a.at = omega arith in
+    (refl, rw (← e) c.loop-j.invariant.1.done)

@@ -4,7 +4,7 @@ use native.Mathlib.Omega.{arith}
 use Rattle.naming.proofs.name.all_parts.Goals as goal
 
 pub write_parts-k-requires : goal.write_parts-k-requires
-write_parts-k-requires c = let k = c in let l = k.requires.2.so k.args.n (omega arith) in (omega arith, omega arith)
+write_parts-k-requires c = let l = c.requires.2.so c.args.n (omega arith) in (omega arith, omega arith)
 
 pub slice_bounds-is_type-end : goal.slice_bounds-is_type-end
 slice_bounds-is_type-end c = let l = written_room _ _ _ c.write_parts-k.ensures c.requires.2 in omega arith

@@ -22,7 +22,6 @@ returns-then-m-eq0 c = let x = c.args in (gives_as (in_first (flags_of x.flags) 
 
 pub returns : goal.returns
 returns c =
-    let k = c in
-    let x = k.args in
-    let e = in_later (flags_of x.flags) (is_name (scope_of (lent x.s x.slots.now x.names.now))) x.rest.now x.from x.n x.end (not-false _ c.if-not-flags.false) c.before_in-m.ensures (omega arith) (omega arith) (prefix_many _ _ _ _ k.requires.0.count (omega arith)) in
+    let x = c.args in
+    let e = in_later (flags_of x.flags) (is_name (scope_of (lent x.s x.slots.now x.names.now))) x.rest.now x.from x.n x.end (not-false _ c.if-not-flags.false) c.before_in-m.ensures (omega arith) (omega arith) (prefix_many _ _ _ _ c.requires.0.count (omega arith)) in
     (gives_as e (gives_flags c.clear_till_in.ensures c.cut_at.ensures), refl)

@@ -4,4 +4,4 @@ use Rattle.naming.proofs.CutLaws.{prefix_many}
 use Rattle.naming.proofs.name.cut_at.Goals as goal
 
 pub end_of-end-requires : goal.end_of-end-requires
-end_of-end-requires c = let k = c in (omega arith, omega arith, prefix_many _ _ _ _ k.requires.3 (omega arith))
+end_of-end-requires c = (omega arith, omega arith, prefix_many _ _ _ _ c.requires.3 (omega arith))

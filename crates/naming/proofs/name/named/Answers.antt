@@ -7,4 +7,4 @@ pub write_parts-k-requires : goal.write_parts-k-requires
 write_parts-k-requires c = (omega arith, c.requires.2.so _ (omega arith))
 
 pub returns : goal.returns
-returns c = let k = c in gives_name _ _ _ c.write_parts-k.ensures k.args.kind k.args.end k.args.flags k.args.reach
+returns c = gives_name _ _ _ c.write_parts-k.ensures c.args.kind c.args.end c.args.flags c.args.reach

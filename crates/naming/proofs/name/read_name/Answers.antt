@@ -11,16 +11,16 @@ use Rattle.text.specs.Classes.{is_name_part}
 use Rattle.naming.proofs.name.read_name.Goals as goal
 
 pub count_parts-w-requires : goal.count_parts-w-requires
-count_parts-w-requires c = let k = c in let l = cell_there is_name_part _ _ k.requires.1 in (omega arith, omega arith)
+count_parts-w-requires c = let l = cell_there is_name_part _ _ c.requires.1 in (omega arith, omega arith)
 
 pub cut_at-requires : goal.cut_at-requires
-cut_at-requires c = let k = c in let l = cell_there is_name_part _ _ k.requires.1 in let n = c.count_parts-w.ensures in let z = some_part k.requires.0 k.requires.1 n in (omega arith, omega arith, omega arith, n.count, roomy k.requires.0 k.requires.1 n (omega arith))
+cut_at-requires c = let l = cell_there is_name_part _ _ c.requires.1 in let n = c.count_parts-w.ensures in let z = some_part c.requires.0 c.requires.1 n in (omega arith, omega arith, omega arith, n.count, roomy c.requires.0 c.requires.1 n (omega arith))
 
 pub returns-then-next_is : goal.returns-then-next_is
-returns-then-next_is c = let k = c in let x = k.args in let n = c.count_parts-w.ensures in (item_there n (flags_of x.flags) (is_name (scope_of (lent x.s x.slots.now x.names.now))) (some_part k.requires.0 k.requires.1 n) c.next_is.ensures c.if-next_is.true c.cut_at.ensures, refl)
+returns-then-next_is c = let x = c.args in let n = c.count_parts-w.ensures in (item_there n (flags_of x.flags) (is_name (scope_of (lent x.s x.slots.now x.names.now))) (some_part c.requires.0 c.requires.1 n) c.next_is.ensures c.if-next_is.true c.cut_at.ensures, refl)
 
 pub by_in-requires : goal.by_in-requires
-by_in-requires c = let k = c in let n = c.count_parts-w.ensures in (n, roomy k.requires.0 k.requires.1 n (omega arith), k.requires.3)
+by_in-requires c = let n = c.count_parts-w.ensures in (n, roomy c.requires.0 c.requires.1 n (omega arith), c.requires.3)
 
 pub returns : goal.returns
-returns c = let k = c in let x = k.args in let n = c.count_parts-w.ensures in (item_not n (flags_of x.flags) (is_name (scope_of (lent x.s x.slots.now x.names.now))) (some_part k.requires.0 k.requires.1 n) c.next_is.ensures c.if-next_is.false c.by_in.ensures.0, c.by_in.ensures.1)
+returns c = let x = c.args in let n = c.count_parts-w.ensures in (item_not n (flags_of x.flags) (is_name (scope_of (lent x.s x.slots.now x.names.now))) (some_part c.requires.0 c.requires.1 n) c.next_is.ensures c.if-next_is.false c.by_in.ensures.0, c.by_in.ensures.1)

@@ -10,10 +10,10 @@ pub find_parts-a-requires : goal.find_parts-a-requires
 find_parts-a-requires c = (omega arith, omega arith, c.requires.2, searching_clear c.loop-m.invariant c.requires.3)
 
 pub returns-then-a : goal.returns-then-a
-returns-then-a c = let k = c in searching_found k.loop-m.invariant (omega arith) k.find_parts-a.ensures c.if-a.true
+returns-then-a c = searching_found c.loop-m.invariant (omega arith) c.find_parts-a.ensures c.if-a.true
 
 pub loop-m-preserved : goal.loop-m-preserved
-loop-m-preserved c = let k = c in searching_more k.loop-m.invariant (omega arith) k.find_parts-a.ensures c.if-a.false
+loop-m-preserved c = searching_more c.loop-m.invariant (omega arith) c.find_parts-a.ensures c.if-a.false
 
 pub shape_of-scratch : goal.shape_of-scratch
 shape_of-scratch c = c.loop-m.invariant.same

@@ -5,8 +5,4 @@ use Rattle.naming.proofs.prefix.longest_prefix.Goals as goal
 
 pub returns : goal.returns
 returns c =
-    let l = c in
-    let b = l in
-    let t = b in
-    let k = t in
-    (bounded (b.bound-m.ensures.so _ (capped k.requires.1.capped (flags_of k.args.flags) t.longest_text-c.ensures)) l.longest.ensures.0, l.longest.ensures.1)
+    (bounded (c.bound-m.ensures.so _ (capped c.requires.1.capped (flags_of c.args.flags) c.longest_text-c.ensures)) c.longest.ensures.0, c.longest.ensures.1)

@@ -14,19 +14,17 @@ loop-i-init c = writing_none (row_line _) _ _ _
 
 pub put_line-k-requires : goal.put_line-k-requires
 put_line-k-requires c =
-    let k = c in
-    let a = k.args in
+    let a = c.args in
     let n = length-take-le a.count a.rows.now (omega arith) in
-    let r = writing_room (row_line a.store.now) (take a.count a.rows.now) k.loop-i.invariant [] (omega arith) in
-    let q = rw (get_or-take a.count a.rows.now k.loop-i.i [] (omega arith)) at r in
-    omega (arith, k.loop-i.invariant.same, ap length (lines_are a.store.now 0 (take a.count a.rows.now)))
+    let r = writing_room (row_line a.store.now) (take a.count a.rows.now) c.loop-i.invariant [] (omega arith) in
+    let q = rw (get_or-take a.count a.rows.now c.loop-i.i [] (omega arith)) at r in
+    omega (arith, c.loop-i.invariant.same, ap length (lines_are a.store.now 0 (take a.count a.rows.now)))
 
 pub loop-i-preserved : goal.loop-i-preserved
 loop-i-preserved c =
-    let k = c in
-    let a = k.args in
+    let a = c.args in
     let n = length-take-le a.count a.rows.now (omega arith) in
-    writing_more (row_line a.store.now) (take a.count a.rows.now) k.loop-i.invariant [] (omega arith) (rw (get_or-take a.count a.rows.now k.loop-i.i [] (omega arith)) c.put_line-k.ensures) (omega arith)
+    writing_more (row_line a.store.now) (take a.count a.rows.now) c.loop-i.invariant [] (omega arith) (rw (get_or-take a.count a.rows.now c.loop-i.i [] (omega arith)) c.put_line-k.ensures) (omega arith)
 
 pub shape_of-out : goal.shape_of-out
 shape_of-out c = c.loop-i.invariant.same

@@ -7,24 +7,20 @@ use Rattle.printing.proofs.value.put_carry.Goals as goal
 
 pub put_number-requires : goal.put_number-requires
 put_number-requires c =
-    let k = c in
-    let e : has_carry k.args.n ≡ true = sym k.has_carry.ensures ∙ c.if-has_carry.true in
-    let r = rw (e, ← c.wide.ensures.0) at k.requires in
+    let e : has_carry c.args.n ≡ true = sym c.has_carry.ensures ∙ c.if-has_carry.true in
+    let r = rw (e, ← c.wide.ensures.0) at c.requires in
     omega arith
 
 pub returns-then-has_carry : goal.returns-then-has_carry
 returns-then-has_carry c =
-    let k = c in
-    rw (sym k.has_carry.ensures ∙ k.if-has_carry.true, ← k.wide.ensures.0) c.put_number.ensures
+    rw (sym c.has_carry.ensures ∙ c.if-has_carry.true, ← c.wide.ensures.0) c.put_number.ensures
 
 pub put_cell-requires : goal.put_cell-requires
 put_cell-requires c =
-    let k = c in
-    let e : has_carry k.args.n ≡ false = sym k.has_carry.ensures ∙ c.if-has_carry.false in
-    let r = rw e at k.requires in
+    let e : has_carry c.args.n ≡ false = sym c.has_carry.ensures ∙ c.if-has_carry.false in
+    let r = rw e at c.requires in
     omega arith
 
 pub returns : goal.returns
 returns c =
-    let k = c in
-    rw (sym k.has_carry.ensures ∙ k.if-has_carry.false) c.put_cell.ensures
+    rw (sym c.has_carry.ensures ∙ c.if-has_carry.false) c.put_cell.ensures

@@ -8,22 +8,18 @@ put_cell-j-requires c = let r = rw c.if-behind.true at c.requires in omega arith
 
 pub put_number-requires : goal.put_number-requires
 put_number-requires c =
-    let k = c in
-    let r = rw (k.if-behind.true, ← c.wide.ensures.0) at k.requires in
+    let r = rw (c.if-behind.true, ← c.wide.ensures.0) at c.requires in
     omega arith
 
 pub returns-then-behind : goal.returns-then-behind
 returns-then-behind c =
-    let k = c in
-    rw (k.if-behind.true, ← c.wide.ensures.0) (further_more k.put_cell-j.ensures c.put_number.ensures)
+    rw (c.if-behind.true, ← c.wide.ensures.0) (further_more c.put_cell-j.ensures c.put_number.ensures)
 
 pub put_number-requires-2 : goal.put_number-requires-2
 put_number-requires-2 c =
-    let k = c in
-    let r = rw (k.if-behind.false, ← c.wide-2.ensures.0) at k.requires in
+    let r = rw (c.if-behind.false, ← c.wide-2.ensures.0) at c.requires in
     omega arith
 
 pub returns : goal.returns
 returns c =
-    let k = c in
-    rw (k.if-behind.false, ← k.wide-2.ensures.0) c.put_number-2.ensures
+    rw (c.if-behind.false, ← c.wide-2.ensures.0) c.put_number-2.ensures

@@ -12,14 +12,12 @@ loop-i-init c = writing_none point _ _ _
 
 pub put_code_point-j-requires : goal.put_code_point-j-requires
 put_code_point-j-requires c =
-    let k = c in
-    let r = writing_room point _ k.loop-i.invariant 0 (omega arith) in
-    omega (arith, k.loop-i.invariant.same, ap length (points k.args.value.now))
+    let r = writing_room point _ c.loop-i.invariant 0 (omega arith) in
+    omega (arith, c.loop-i.invariant.same, ap length (points c.args.value.now))
 
 pub loop-i-preserved : goal.loop-i-preserved
 loop-i-preserved c =
-    let k = c in
-    writing_more point _ k.loop-i.invariant 0 (omega arith) c.put_code_point-j.ensures (omega arith)
+    writing_more point _ c.loop-i.invariant 0 (omega arith) c.put_code_point-j.ensures (omega arith)
 
 pub shape_of-out : goal.shape_of-out
 shape_of-out c = c.loop-i.invariant.same

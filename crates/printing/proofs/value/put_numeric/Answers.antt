@@ -28,9 +28,8 @@ put_part-requires c =
 pub returns : goal.returns
 returns c =
     let a = c.args in
-    let k = c in
     let v = a.value.now in
-    let x = part-before v a.before a.after k.least-a.ensures k.least.ensures refl in
-    let y = part-after v a.before a.after k.least-a.ensures k.least.ensures refl in
-    let z = part-rest v a.before a.after k.least-a.ensures k.least.ensures refl in
-    further_same (number_is a.before a.after a.extra v x y z) (further_more (further_more (further_more k.put_digits-j.ensures.0 c.put_digits-j-2.ensures.0) c.put_sign-j.ensures.0) c.put_part.ensures.0)
+    let x = part-before v a.before a.after c.least-a.ensures c.least.ensures refl in
+    let y = part-after v a.before a.after c.least-a.ensures c.least.ensures refl in
+    let z = part-rest v a.before a.after c.least-a.ensures c.least.ensures refl in
+    further_same (number_is a.before a.after a.extra v x y z) (further_more (further_more (further_more c.put_digits-j.ensures.0 c.put_digits-j-2.ensures.0) c.put_sign-j.ensures.0) c.put_part.ensures.0)

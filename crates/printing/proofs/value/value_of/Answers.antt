@@ -4,6 +4,5 @@ use Rattle.printing.proofs.value.value_of.Goals as goal
 
 pub returns : goal.returns
 returns c =
-    let k = c in
-    let a = k.args in
-    value_is a.store.now a.row k.wide.ensures.0 c.wide-2.ensures.0 k.least-a.ensures c.least.ensures
+    let a = c.args in
+    value_is a.store.now a.row c.wide.ensures.0 c.wide-2.ensures.0 c.least-a.ensures c.least.ensures

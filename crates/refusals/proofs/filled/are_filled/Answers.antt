@@ -11,10 +11,10 @@ pub loop-i-init : goal.loop-i-init
 loop-i-init c = refl
 
 pub returns-then-not-is_filled : goal.returns-then-not-is_filled
-returns-then-not-is_filled c = sym (let k = c in let a = k.args in k.loop-i.invariant ∙ all_out (all (λ z. eqb z a.x)) [] a.rows.now k.loop-i.i (omega arith) (sym c.is_filled.ensures ∙ c.if-not-is_filled.true))
+returns-then-not-is_filled c = sym (let a = c.args in c.loop-i.invariant ∙ all_out (all (λ z. eqb z a.x)) [] a.rows.now c.loop-i.i (omega arith) (sym c.is_filled.ensures ∙ c.if-not-is_filled.true))
 
 pub loop-i-preserved : goal.loop-i-preserved
-loop-i-preserved c = let k = c in let a = k.args in k.loop-i.invariant ∙ all_in (all (λ z. eqb z a.x)) [] a.rows.now k.loop-i.i (omega arith) (sym c.is_filled.ensures ∙ c.if-not-is_filled.false)
+loop-i-preserved c = let a = c.args in c.loop-i.invariant ∙ all_in (all (λ z. eqb z a.x)) [] a.rows.now c.loop-i.i (omega arith) (sym c.is_filled.ensures ∙ c.if-not-is_filled.false)
 
 pub returns : goal.returns
-returns c = sym (let k = c in let a = k.args in k.loop-i.invariant ∙ all_end (all (λ z. eqb z a.x)) [] a.rows.now k.loop-i.i (omega arith))
+returns c = sym (let a = c.args in c.loop-i.invariant ∙ all_end (all (λ z. eqb z a.x)) [] a.rows.now c.loop-i.i (omega arith))

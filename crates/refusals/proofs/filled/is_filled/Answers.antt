@@ -10,10 +10,10 @@ pub loop-i-init : goal.loop-i-init
 loop-i-init c = refl
 
 pub returns-then-cells-i : goal.returns-then-cells-i
-returns-then-cells-i c = sym (let k = c in let a = k.args in k.loop-i.invariant ∙ all_out (λ z. eqb z a.x) 0 a.cells.now k.loop-i.i (omega arith) (ne_eqb _ _ c.if-cells-i.true))
+returns-then-cells-i c = sym (let a = c.args in c.loop-i.invariant ∙ all_out (λ z. eqb z a.x) 0 a.cells.now c.loop-i.i (omega arith) (ne_eqb _ _ c.if-cells-i.true))
 
 pub loop-i-preserved : goal.loop-i-preserved
-loop-i-preserved c = let k = c in let a = k.args in k.loop-i.invariant ∙ all_in (λ z. eqb z a.x) 0 a.cells.now k.loop-i.i (omega arith) (eq-eqb _ _ c.if-cells-i.false)
+loop-i-preserved c = let a = c.args in c.loop-i.invariant ∙ all_in (λ z. eqb z a.x) 0 a.cells.now c.loop-i.i (omega arith) (eq-eqb _ _ c.if-cells-i.false)
 
 pub returns : goal.returns
-returns c = sym (let k = c in let a = k.args in k.loop-i.invariant ∙ all_end (λ z. eqb z a.x) 0 a.cells.now k.loop-i.i (omega arith))
+returns c = sym (let a = c.args in c.loop-i.invariant ∙ all_end (λ z. eqb z a.x) 0 a.cells.now c.loop-i.i (omega arith))

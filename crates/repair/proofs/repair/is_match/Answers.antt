@@ -13,10 +13,10 @@ pub returns-then-old_rows-j : goal.returns-then-old_rows-j
 returns-then-old_rows-j c = looked_last c.requires.0 _ (omega arith)
 
 pub moved-requires : goal.moved-requires
-moved-requires c = let k = c in (omega (arith, c.wide-q.ensures.0, (k.requires.1.so (omega arith)).0), omega (arith, c.wide-q.ensures.1), k.requires.3)
+moved-requires c = (omega (arith, c.wide-q.ensures.0, (c.requires.1.so (omega arith)).0), omega (arith, c.wide-q.ensures.1), c.requires.3)
 
 pub returns-then-moved-p : goal.returns-then-moved-p
-returns-then-moved-p c = let k = c in looked_off k.requires.0 _ k.requires.1 k.requires.2 (omega arith) (λ q. omega (arith, q, c.moved.ensures, ap (moved (edit_of k.args.e)) c.wide-q.ensures.0))
+returns-then-moved-p c = looked_off c.requires.0 _ c.requires.1 c.requires.2 (omega arith) (λ q. omega (arith, q, c.moved.ensures, ap (moved (edit_of c.args.e)) c.wide-q.ensures.0))
 
 pub returns : goal.returns
-returns c = let k = c in looked_flags k.requires.0 _ k.requires.1 k.requires.2 (omega arith) (omega (arith, c.moved.ensures, ap (moved (edit_of k.args.e)) c.wide-q.ensures.0)) c.flag_bits.ensures
+returns c = looked_flags c.requires.0 _ c.requires.1 c.requires.2 (omega arith) (omega (arith, c.moved.ensures, ap (moved (edit_of c.args.e)) c.wide-q.ensures.0)) c.flag_bits.ensures

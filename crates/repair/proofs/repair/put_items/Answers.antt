@@ -18,11 +18,10 @@ returns-then-k-old_rows c = (behind-same (items-all c.requires.0 c.count_kept-k.
 
 pub put_rest-requires : goal.put_rest-requires
 put_rest-requires c =
-    let k = c in
-    let a = k.requires.0 in
+    let a = c.requires.0 in
     let t = c.count_kept-k.ensures in
     let b = c.put_kept-kept.ensures in
-    (askable_same a b.as_many b.as_long refl, t, omega arith, omega (arith, b.count, kept-count a t, kept_few a t (omega arith)), omega (arith, b.cells, kept-cells a t), k.requires.1, k.requires.2)
+    (askable_same a b.as_many b.as_long refl, t, omega arith, omega (arith, b.count, kept-count a t, kept_few a t (omega arith)), omega (arith, b.cells, kept-cells a t), c.requires.1, c.requires.2)
 
 pub returns : goal.returns
 returns c =

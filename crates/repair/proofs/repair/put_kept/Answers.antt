@@ -10,11 +10,9 @@ use Rattle.repair.proofs.repair.put_kept.Goals as goal
 
 pub copy_items-requires : goal.copy_items-requires
 copy_items-requires c =
-    let k = c in
-    let z = moved_none (map (item_of k.args.old_store.now) (take k.args.k k.args.old_rows.now)) in
-    (k.requires.0, omega arith, omega (arith, k.requires.1), omega (arith, k.requires.2, ap (λ is. length (store_of is)) z), omega (arith, k.requires.3, ap (λ is. length (store_of is)) z))
+    let z = moved_none (map (item_of c.args.old_store.now) (take c.args.k c.args.old_rows.now)) in
+    (c.requires.0, omega arith, omega (arith, c.requires.1), omega (arith, c.requires.2, ap (λ is. length (store_of is)) z), omega (arith, c.requires.3, ap (λ is. length (store_of is)) z))
 
 pub returns : goal.returns
 returns c =
-    let k = c in
-    behind-same (moved_none (map (item_of k.args.old_store.now) (take k.args.k k.args.old_rows.now))) c.copy_items.ensures
+    behind-same (moved_none (map (item_of c.args.old_store.now) (take c.args.k c.args.old_rows.now))) c.copy_items.ensures

@@ -5,12 +5,10 @@ use Rattle.repair.proofs.repair.read_fresh.Goals as goal
 
 pub put_moved-requires : goal.put_moved-requires
 put_moved-requires c =
-    let k = c in
     let n = c.read_item-next.ensures.0 in
-    (omega arith, omega (arith, c.wide.ensures.0, place_written n k.requires.5, n.within, k.requires.0), omega (arith, c.wide-2.ensures.0, reach_written n k.requires.5, n.far, k.requires.0), omega (arith, k.requires.4))
+    (omega arith, omega (arith, c.wide.ensures.0, place_written n c.requires.5, n.within, c.requires.0), omega (arith, c.wide-2.ensures.0, reach_written n c.requires.5, n.far, c.requires.0), omega (arith, c.requires.4))
 
 pub returns : goal.returns
 returns c =
-    let k = c in
     let n = c.read_item-next.ensures.0 in
-    (fresh-is n k.requires.5 k.args.base (omega (arith, c.wide.ensures.0, place_written n k.requires.5)) (omega (arith, c.wide-2.ensures.0, reach_written n k.requires.5)) c.put_moved.ensures, c.read_item-next.ensures.1)
+    (fresh-is n c.requires.5 c.args.base (omega (arith, c.wide.ensures.0, place_written n c.requires.5)) (omega (arith, c.wide-2.ensures.0, reach_written n c.requires.5)) c.put_moved.ensures, c.read_item-next.ensures.1)

@@ -9,7 +9,7 @@ use native.Mathlib.Omega.{arith}
 use Rattle.repair.proofs.repair.read_to_match.Goals as goal
 
 pub loop-at-init : goal.loop-at-init
-loop-at-init c = let k = c in (seeking_none (omega (arith, k.requires.1)) (omega (arith, k.requires.2)), refl)
+loop-at-init c = (seeking_none (omega (arith, c.requires.1)) (omega (arith, c.requires.2)), refl)
 
 pub overflow_add-p : goal.overflow_add-p
 overflow_add-p c = let i = c.loop-at.invariant.0 in omega (arith, i.within, c.requires.0)
@@ -37,11 +37,10 @@ returns-then-is_match c = (seeking_match c.loop-at.invariant.0 (not-true _ c.loo
 
 pub read_fresh-at-requires : goal.read_fresh-at-requires
 read_fresh-at-requires c =
-    let k = c in
     let l = c.loop-at.invariant in
     let i = l.0 in
     let f = i.few (not-true _ c.loop-at-test.true) in
-    (k.requires.0, omega (arith, i.behind.cells, i.behind.as_long, i.short, i.within, k.requires.2), omega (arith, ap length l.1, k.requires.3), i.within, omega (arith, i.behind.cells, i.short, i.within, k.requires.5, k.requires.0), omega (arith, i.behind.count, i.behind.as_many, f, i.within, k.requires.1), omega (arith, i.behind.count, f, i.within, k.requires.4, k.requires.0), k.requires.8, subst Clear (sym l.1) k.requires.9, c.longest_key-cap.ensures)
+    (c.requires.0, omega (arith, i.behind.cells, i.behind.as_long, i.short, i.within, c.requires.2), omega (arith, ap length l.1, c.requires.3), i.within, omega (arith, i.behind.cells, i.short, i.within, c.requires.5, c.requires.0), omega (arith, i.behind.count, i.behind.as_many, f, i.within, c.requires.1), omega (arith, i.behind.count, f, i.within, c.requires.4, c.requires.0), c.requires.8, subst Clear (sym l.1) c.requires.9, c.longest_key-cap.ensures)
 
 pub loop-at-smaller : goal.loop-at-smaller
 loop-at-smaller c =
@@ -51,11 +50,10 @@ loop-at-smaller c =
 
 pub loop-at-preserved : goal.loop-at-preserved
 loop-at-preserved c =
-    let k = c in
     let i = c.loop-at.invariant.0 in
     let going = (not-true _ c.loop-at-test.true) in
     let f = i.few going in
-    (seeking_more i going c.pass_old-j.ensures.0 (c.is_match.ensures.missed c.if-is_match.false) c.read_fresh-at.ensures.0 (omega (arith, i.behind.count, i.behind.as_many, f, i.within, k.requires.1)) (omega (arith, i.behind.cells, i.behind.as_long, i.short, i.within, k.requires.2)), c.read_fresh-at.ensures.1 ∙ c.loop-at.invariant.1)
+    (seeking_more i going c.pass_old-j.ensures.0 (c.is_match.ensures.missed c.if-is_match.false) c.read_fresh-at.ensures.0 (omega (arith, i.behind.count, i.behind.as_many, f, i.within, c.requires.1)) (omega (arith, i.behind.cells, i.behind.as_long, i.short, i.within, c.requires.2)), c.read_fresh-at.ensures.1 ∙ c.loop-at.invariant.1)
 
 pub shape_of-rows : goal.shape_of-rows
 shape_of-rows c = c.loop-at.invariant.0.behind.as_many

@@ -12,17 +12,13 @@ loop-at-init c = (onward_none, refl)
 
 pub read_item-at-requires : goal.read_item-at-requires
 read_item-at-requires c =
-    let k = c in
-    let l = c in
-    let s = l.loop-at.invariant.0.so (c.put_start-at.ensures _ _ _) k.requires.1 k.requires.2 in
+    let s = c.loop-at.invariant.0.so (c.put_start-at.ensures _ _ _) c.requires.1 c.requires.2 in
     let f = s.few (not-true _ c.loop-at-test.true) in
-    (k.requires.0, omega (arith, s.behind.as_long, s.short, k.requires.2), omega (arith, ap length l.loop-at.invariant.1, k.requires.3), s.within, omega (arith, s.short, s.within, k.requires.0), omega (arith, f, s.within, s.behind.as_many, k.requires.1), omega (arith, f, s.within, k.requires.0), k.requires.4, subst Clear (sym l.loop-at.invariant.1) k.requires.5, c.longest_key-cap.ensures)
+    (c.requires.0, omega (arith, s.behind.as_long, s.short, c.requires.2), omega (arith, ap length c.loop-at.invariant.1, c.requires.3), s.within, omega (arith, s.short, s.within, c.requires.0), omega (arith, f, s.within, s.behind.as_many, c.requires.1), omega (arith, f, s.within, c.requires.0), c.requires.4, subst Clear (sym c.loop-at.invariant.1) c.requires.5, c.longest_key-cap.ensures)
 
 pub loop-at-smaller : goal.loop-at-smaller
 loop-at-smaller c =
-    let k = c in
-    let l = c in
-    let s = l.loop-at.invariant.0.so (c.put_start-at.ensures _ _ _) k.requires.1 k.requires.2 in
+    let s = c.loop-at.invariant.0.so (c.put_start-at.ensures _ _ _) c.requires.1 c.requires.2 in
     let f = s.few (not-true _ c.loop-at-test.true) in
     omega (arith, f, s.within, c.read_item-at.ensures.0.written.count)
 
@@ -31,19 +27,15 @@ loop-at-preserved c = (onward_more c.loop-at.invariant.0 c.read_item-at.ensures.
 
 pub shape_of-rows : goal.shape_of-rows
 shape_of-rows c =
-    let k = c in
-    (c.loop-at.invariant.0.so (c.put_start-at.ensures _ _ _) k.requires.1 k.requires.2).behind.as_many
+    (c.loop-at.invariant.0.so (c.put_start-at.ensures _ _ _) c.requires.1 c.requires.2).behind.as_many
 
 pub shape_of-store : goal.shape_of-store
 shape_of-store c =
-    let k = c in
-    (c.loop-at.invariant.0.so (c.put_start-at.ensures _ _ _) k.requires.1 k.requires.2).behind.as_long
+    (c.loop-at.invariant.0.so (c.put_start-at.ensures _ _ _) c.requires.1 c.requires.2).behind.as_long
 
 pub shape_of-scratch : goal.shape_of-scratch
 shape_of-scratch c = ap length c.loop-at.invariant.1
 
 pub returns : goal.returns
 returns c =
-    let k = c in
-    let l = c in
-    (l.loop-at.invariant.0.so (c.put_start-at.ensures _ _ _) k.requires.1 k.requires.2, (not-false _ c.loop-at-test.false), l.loop-at.invariant.1)
+    (c.loop-at.invariant.0.so (c.put_start-at.ensures _ _ _) c.requires.1 c.requires.2, (not-false _ c.loop-at-test.false), c.loop-at.invariant.1)

@@ -13,9 +13,8 @@ returns-then-cells-i-gt55295 c = λ e. absurd (false≢true e)
 
 pub loop-i-preserved : goal.loop-i-preserved
 loop-i-preserved c =
-    let k = c in
-    let a = k.args in
-    (omega arith, scalar_more a.cells.now a.n (omega arith) k.loop-i.i k.loop-i.invariant.1 (omega arith) (low_scalar _ c.if-cells-i-gt55295.false))
+    let a = c.args in
+    (omega arith, scalar_more a.cells.now a.n (omega arith) c.loop-i.i c.loop-i.invariant.1 (omega arith) (low_scalar _ c.if-cells-i-gt55295.false))
 
 pub returns : goal.returns
 returns c = λ _. let a = c.args in scalar_end a.cells.now a.n (omega arith) c.loop-i.i c.loop-i.invariant.1 (omega arith)

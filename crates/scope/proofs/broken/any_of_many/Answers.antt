@@ -14,29 +14,26 @@ loop-i-init c = (omega arith, passed_start _ c.args.count c.args.slots.now c.arg
 
 pub mark-m-requires : goal.mark-m-requires
 mark-m-requires c =
-    let k = c in
-    let a = k.args in
-    omega (arith, short_at a.count a.slots.now (k.loop-i.i - 1) k.requires.2 (omega arith) (omega arith))
+    let a = c.args in
+    omega (arith, short_at a.count a.slots.now (c.loop-i.i - 1) c.requires.2 (omega arith) (omega arith))
 
 pub returns-then-stands_again : goal.returns-then-stands_again
 returns-then-stands_again c =
-    let k = c in
-    let a = k.args in
-    let i = k.loop-i.i in
+    let a = c.args in
+    let i = c.loop-i.i in
     let ss = a.slots.now in
     let ns = a.names.now in
     let s : i - 1 + 1 ≡ i = omega arith in
-    sym (twice ss ns a.count i (omega arith) (omega arith) (omega arith) (omega arith) (passed_twice k.loop-i.taken (entry_at ss ns (i - 1)) (drop i (held a.count ss ns)) k.loop-i.invariant.1 c.mark-m.result (c.mark-m.ensures.0 ∙ rw c.wide.ensures) (rw s at c.stands_again.ensures) c.if-stands_again.true))
+    sym (twice ss ns a.count i (omega arith) (omega arith) (omega arith) (omega arith) (passed_twice c.loop-i.taken (entry_at ss ns (i - 1)) (drop i (held a.count ss ns)) c.loop-i.invariant.1 c.mark-m.result (c.mark-m.ensures.0 ∙ rw c.wide.ensures) (rw s at c.stands_again.ensures) c.if-stands_again.true))
 
 pub loop-i-preserved : goal.loop-i-preserved
 loop-i-preserved c =
-    let k = c in
-    let a = k.args in
-    let i = k.loop-i.i in
+    let a = c.args in
+    let i = c.loop-i.i in
     let ss = a.slots.now in
     let ns = a.names.now in
     let s : i - 1 + 1 ≡ i = omega arith in
-    let p = passed_more k.loop-i.taken (entry_at ss ns (i - 1)) (drop i (held a.count ss ns)) k.loop-i.invariant.1 c.mark-m.result (c.mark-m.ensures.0 ∙ rw c.wide.ensures) (rw s at c.stands_again.ensures) (omega arith) c.if-stands_again.false in
+    let p = passed_more c.loop-i.taken (entry_at ss ns (i - 1)) (drop i (held a.count ss ns)) c.loop-i.invariant.1 c.mark-m.result (c.mark-m.ensures.0 ∙ rw c.wide.ensures) (rw s at c.stands_again.ensures) (omega arith) c.if-stands_again.false in
     (omega arith, rw (before ss ns a.count i (omega arith) (omega arith) (omega arith) (omega arith)) p)
 
 pub returns : goal.returns

@@ -15,15 +15,13 @@ loop-i-init c = (omega arith, refl)
 
 pub returns-then-not-is_scalar : goal.returns-then-not-is_scalar
 returns-then-not-is_scalar c =
-    let k = c in
-    let a = k.args in
-    sym (name_bad a.cells.now a.n (omega arith) k.loop-i.i k.loop-i.invariant.1 (omega arith) (omega arith) (sym c.is_scalar.ensures ∙ c.if-not-is_scalar.true))
+    let a = c.args in
+    sym (name_bad a.cells.now a.n (omega arith) c.loop-i.i c.loop-i.invariant.1 (omega arith) (omega arith) (sym c.is_scalar.ensures ∙ c.if-not-is_scalar.true))
 
 pub loop-i-preserved : goal.loop-i-preserved
 loop-i-preserved c =
-    let k = c in
-    let a = k.args in
-    (omega arith, scalar_more a.cells.now a.n (omega arith) k.loop-i.i k.loop-i.invariant.1 (omega arith) (sym c.is_scalar.ensures ∙ c.if-not-is_scalar.false))
+    let a = c.args in
+    (omega arith, scalar_more a.cells.now a.n (omega arith) c.loop-i.i c.loop-i.invariant.1 (omega arith) (sym c.is_scalar.ensures ∙ c.if-not-is_scalar.false))
 
 pub returns : goal.returns
 returns c =

@@ -9,9 +9,8 @@ loop-i-init c = (omega arith, omega arith, refl)
 
 pub loop-i-preserved : goal.loop-i-preserved
 loop-i-preserved c =
-    let k = c in
-    let a = k.args in
-    (omega arith, omega arith, k.loop-i.invariant.2 ∙ mark_step a.cells.now a.n k.loop-i.i k.loop-i.m (omega arith) (omega arith) ∙ rw c.wide.ensures)
+    let a = c.args in
+    (omega arith, omega arith, c.loop-i.invariant.2 ∙ mark_step a.cells.now a.n c.loop-i.i c.loop-i.m (omega arith) (omega arith) ∙ rw c.wide.ensures)
 
 pub returns : goal.returns
 returns c =

@@ -1,4 +1,4 @@
--- The laws follow the definition's order; each need hands over the count and the tests.
+-- The laws follow the definition's order; each answer hands over the count and the tests.
 use native.Mathlib.Omega.{arith}
 use mathlib.Core.Path.{sym, ◌∙◌}
 use lib.ListN.{length}

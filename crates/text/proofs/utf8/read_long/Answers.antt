@@ -1,4 +1,4 @@
--- Laws follow the code look by look; each need hands over the tests that led there.
+-- Laws follow the code look by look; each answer hands over the tests that led there.
 use native.Mathlib.Omega.{arith}
 use Rattle.text.proofs.Utf8Laws.{enough, three_cells, four_cells, at_short, at_second, at_two, at_third, at_three, at_fourth, at_four}
 use Rattle.text.proofs.utf8.read_long.Goals as goal

@@ -9,10 +9,10 @@ pub returns-then-l : goal.returns-then-l
 returns-then-l c = (step_start _ c.args.l _ _ c.if-l.true c.start_number-k.ensures, refl)
 
 pub overflow_add-result : goal.overflow_add-result
-overflow_add-result c = let k = c in let l = step-within _ k.args.l k.args.text.now c.read_token-o.ensures.0 k.requires.0 k.requires.1 in omega (arith, l, k.requires.0)
+overflow_add-result c = let l = step-within _ c.args.l c.args.text.now c.read_token-o.ensures.0 c.requires.0 c.requires.1 in omega (arith, l, c.requires.0)
 
 pub overflow_add-result-2 : goal.overflow_add-result-2
-overflow_add-result-2 c = let k = c in let l = step-within _ k.args.l k.args.text.now c.read_token-o.ensures.0 k.requires.0 k.requires.1 in omega (arith, l, k.requires.0)
+overflow_add-result-2 c = let l = step-within _ c.args.l c.args.text.now c.read_token-o.ensures.0 c.requires.0 c.requires.1 in omega (arith, l, c.requires.0)
 
 pub returns : goal.returns
-returns c = let k = c in (step_token _ k.args.l k.args.text.now c.read_token-o.ensures.0 c.if-l.false, c.read_token-o.ensures.1)
+returns c = (step_token _ c.args.l c.args.text.now c.read_token-o.ensures.0 c.if-l.false, c.read_token-o.ensures.1)

@@ -11,31 +11,27 @@ use Rattle.tokens.proofs.TokenLaws.{takes_as, point_starts, quote_there, case-po
 use Rattle.tokens.proofs.token.behind_words.Goals as goal
 
 pub number_at-requires : goal.number_at-requires
-number_at-requires c = let k = c in (omega arith, omega arith, omega arith, point_starts _ _ k.requires.2 (sym c.begins_with_point.ensures ∙ c.if-begins_with_point.true))
+number_at-requires c = (omega arith, omega arith, omega arith, point_starts _ _ c.requires.2 (sym c.begins_with_point.ensures ∙ c.if-begins_with_point.true))
 
 pub returns-then-begins_with_point : goal.returns-then-begins_with_point
 returns-then-begins_with_point c =
-    let y = c in
-    let x = y.args in
-    (takes_as (case-point (flags_of x.flags) (is_name (scope_of (lent x.s x.slots.now x.names.now))) x.rest.now x.i y.requires.2 c.begins_with_point.ensures c.if-begins_with_point.true) c.number_at.ensures, refl)
+    let x = c.args in
+    (takes_as (case-point (flags_of x.flags) (is_name (scope_of (lent x.s x.slots.now x.names.now))) x.rest.now x.i c.requires.2 c.begins_with_point.ensures c.if-begins_with_point.true) c.number_at.ensures, refl)
 
 pub string_at-requires : goal.string_at-requires
-string_at-requires c = let k = c in let l = quote_there _ _ k.requires.2 (eq-eqb 0x22 _ c.if-c-eq-QUOTE.true) in (omega arith, omega arith, omega arith)
+string_at-requires c = let l = quote_there _ _ c.requires.2 (eq-eqb 0x22 _ c.if-c-eq-QUOTE.true) in (omega arith, omega arith, omega arith)
 
 pub returns-then-c-eq-QUOTE : goal.returns-then-c-eq-QUOTE
 returns-then-c-eq-QUOTE c =
-    let y = c in
-    let x = y.args in
-    (takes_as (case_quote (flags_of x.flags) (is_name (scope_of (lent x.s x.slots.now x.names.now))) x.rest.now x.i y.requires.2 c.begins_with_point.ensures c.if-begins_with_point.false (eq-eqb 0x22 _ c.if-c-eq-QUOTE.true)) c.string_at.ensures, refl)
+    let x = c.args in
+    (takes_as (case_quote (flags_of x.flags) (is_name (scope_of (lent x.s x.slots.now x.names.now))) x.rest.now x.i c.requires.2 c.begins_with_point.ensures c.if-begins_with_point.false (eq-eqb 0x22 _ c.if-c-eq-QUOTE.true)) c.string_at.ensures, refl)
 
 pub returns-in-Found : goal.returns-in-Found
 returns-in-Found c =
-    let y = c in
-    let x = y.args in
-    (takes_as (case-symbol (flags_of x.flags) (is_name (scope_of (lent x.s x.slots.now x.names.now))) x.rest.now x.i y.requires.2 c.begins_with_point.ensures c.if-begins_with_point.false (ne_eqb 0x22 _ c.if-c-eq-QUOTE.false)) (row-taken symbols c.first_symbol-m.ensures _ c.in-Found.is c.of_row.ensures), refl)
+    let x = c.args in
+    (takes_as (case-symbol (flags_of x.flags) (is_name (scope_of (lent x.s x.slots.now x.names.now))) x.rest.now x.i c.requires.2 c.begins_with_point.ensures c.if-begins_with_point.false (ne_eqb 0x22 _ c.if-c-eq-QUOTE.false)) (row-taken symbols c.first_symbol-m.ensures _ c.in-Found.is c.of_row.ensures), refl)
 
 pub returns-in-None : goal.returns-in-None
 returns-in-None c =
-    let y = c in
-    let x = y.args in
-    (takes_as (case-symbol (flags_of x.flags) (is_name (scope_of (lent x.s x.slots.now x.names.now))) x.rest.now x.i y.requires.2 c.begins_with_point.ensures c.if-begins_with_point.false (ne_eqb 0x22 _ c.if-c-eq-QUOTE.false)) (row_missed symbols c.first_symbol-m.ensures c.in-None.is c.other_cases.ensures.0), c.other_cases.ensures.1)
+    let x = c.args in
+    (takes_as (case-symbol (flags_of x.flags) (is_name (scope_of (lent x.s x.slots.now x.names.now))) x.rest.now x.i c.requires.2 c.begins_with_point.ensures c.if-begins_with_point.false (ne_eqb 0x22 _ c.if-c-eq-QUOTE.false)) (row_missed symbols c.first_symbol-m.ensures c.in-None.is c.other_cases.ensures.0), c.other_cases.ensures.1)

@@ -6,7 +6,7 @@ use Rattle.tokens.proofs.TokenLaws.{row-taken, row_missed, row_reach}
 use Rattle.tokens.proofs.token.by_window.Goals as goal
 
 pub behind_words-requires : goal.behind_words-requires
-behind_words-requires c = let k = c in let z = k in (omega arith, omega arith, k.shown_at-c.ensures, omega arith, row_reach words k.first_word-m.ensures c.in-None.is, z.requires.3)
+behind_words-requires c = (omega arith, omega arith, c.shown_at-c.ensures, omega arith, row_reach words c.first_word-m.ensures c.in-None.is, c.requires.3)
 
 pub returns-in-Found : goal.returns-in-Found
 returns-in-Found c = (row-taken words c.first_word-m.ensures _ c.in-Found.is c.of_row.ensures, refl)

@@ -4,7 +4,7 @@ use Rattle.tokens.proofs.TokenLaws.{number-room, number-taken}
 use Rattle.tokens.proofs.token.number_at.Goals as goal
 
 pub write_number-requires : goal.write_number-requires
-write_number-requires c = let k = c in let n = c.read_number-n.ensures in (n, number-room n k.requires.0 k.requires.3 (omega arith))
+write_number-requires c = let n = c.read_number-n.ensures in (n, number-room n c.requires.0 c.requires.3 (omega arith))
 
 pub returns : goal.returns
-returns c = let k = c in number-taken c.read_number-n.ensures c.write_number.ensures k.args.flags c.larger-reach.ensures c.larger-before.ensures
+returns c = number-taken c.read_number-n.ensures c.write_number.ensures c.args.flags c.larger-reach.ensures c.larger-before.ensures

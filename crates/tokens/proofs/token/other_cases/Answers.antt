@@ -9,31 +9,27 @@ use Rattle.tokens.proofs.TokenLaws.{takes_as, takes_later, takes_done, digit_sta
 use Rattle.tokens.proofs.token.other_cases.Goals as goal
 
 pub number_at-requires : goal.number_at-requires
-number_at-requires c = let k = c in (omega arith, omega arith, omega arith, digit_starts _ _ k.requires.2 (sym c.is_digit.ensures ∙ c.if-is_digit.true))
+number_at-requires c = (omega arith, omega arith, omega arith, digit_starts _ _ c.requires.2 (sym c.is_digit.ensures ∙ c.if-is_digit.true))
 
 pub returns-then-is_digit : goal.returns-then-is_digit
 returns-then-is_digit c =
-    let y = c in
-    let x = y.args in
-    (takes_as (case-digit (flags_of x.flags) (is_name (scope_of (lent x.s x.slots.now x.names.now))) x.rest.now x.i y.requires.2 c.is_digit.ensures c.if-is_digit.true) c.number_at.ensures, refl)
+    let x = c.args in
+    (takes_as (case-digit (flags_of x.flags) (is_name (scope_of (lent x.s x.slots.now x.names.now))) x.rest.now x.i c.requires.2 c.is_digit.ensures c.if-is_digit.true) c.number_at.ensures, refl)
 
 pub read_name-o-requires : goal.read_name-o-requires
-read_name-o-requires c = let k = c in (omega arith, name_there _ _ k.requires.2 (sym c.is_name_start_char.ensures ∙ c.if-is_name_start_char.true), omega arith, k.requires.4)
+read_name-o-requires c = (omega arith, name_there _ _ c.requires.2 (sym c.is_name_start_char.ensures ∙ c.if-is_name_start_char.true), omega arith, c.requires.4)
 
 pub returns-then-is_name_start_char : goal.returns-then-is_name_start_char
 returns-then-is_name_start_char c =
-    let y = c in
-    let x = y.args in
-    (takes_as (case_name (flags_of x.flags) (is_name (scope_of (lent x.s x.slots.now x.names.now))) x.rest.now x.i y.requires.2 c.is_digit.ensures c.if-is_digit.false c.is_name_start_char.ensures c.if-is_name_start_char.true) (takes_later c.read_name-o.ensures.0 _ c.larger-reach.ensures), c.read_name-o.ensures.1)
+    let x = c.args in
+    (takes_as (case_name (flags_of x.flags) (is_name (scope_of (lent x.s x.slots.now x.names.now))) x.rest.now x.i c.requires.2 c.is_digit.ensures c.if-is_digit.false c.is_name_start_char.ensures c.if-is_name_start_char.true) (takes_later c.read_name-o.ensures.0 _ c.larger-reach.ensures), c.read_name-o.ensures.1)
 
 pub returns-then-is_blank : goal.returns-then-is_blank
 returns-then-is_blank c =
-    let y = c in
-    let x = y.args in
-    (takes_as (case-end (flags_of x.flags) (is_name (scope_of (lent x.s x.slots.now x.names.now))) x.rest.now x.i y.requires.2 c.is_digit.ensures c.if-is_digit.false c.is_name_start_char.ensures c.if-is_name_start_char.false c.is_blank.ensures c.if-is_blank.true) (takes_done _ _ _ (c.plain.ensures _)), refl)
+    let x = c.args in
+    (takes_as (case-end (flags_of x.flags) (is_name (scope_of (lent x.s x.slots.now x.names.now))) x.rest.now x.i c.requires.2 c.is_digit.ensures c.if-is_digit.false c.is_name_start_char.ensures c.if-is_name_start_char.false c.is_blank.ensures c.if-is_blank.true) (takes_done _ _ _ (c.plain.ensures _)), refl)
 
 pub returns : goal.returns
 returns c =
-    let y = c in
-    let x = y.args in
-    (takes_as (case_nothing (flags_of x.flags) (is_name (scope_of (lent x.s x.slots.now x.names.now))) x.rest.now x.i y.requires.2 c.is_digit.ensures c.if-is_digit.false c.is_name_start_char.ensures c.if-is_name_start_char.false c.is_blank.ensures c.if-is_blank.false) (takes_done _ _ _ (c.plain-2.ensures _)), refl)
+    let x = c.args in
+    (takes_as (case_nothing (flags_of x.flags) (is_name (scope_of (lent x.s x.slots.now x.names.now))) x.rest.now x.i c.requires.2 c.is_digit.ensures c.if-is_digit.false c.is_name_start_char.ensures c.if-is_name_start_char.false c.is_blank.ensures c.if-is_blank.false) (takes_done _ _ _ (c.plain-2.ensures _)), refl)

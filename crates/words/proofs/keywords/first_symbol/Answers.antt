@@ -11,5 +11,4 @@ use Rattle.words.proofs.keywords.first_symbol.Goals as goal
 pub returns : goal.returns
 unfolding window_of
 returns c =
-    let k = c in
-    sign_matched c.symbol-kind.ensures _ 1 11 _ _ (flags_of k.args.flags) (ap (λ (x : ℕ). x ∷ []) k.requires.2) (omega arith) (omega arith) (omega arith) (omega arith) c.of_sign.ensures
+    sign_matched c.symbol-kind.ensures _ 1 11 _ _ (flags_of c.args.flags) (ap (λ (x : ℕ). x ∷ []) c.requires.2) (omega arith) (omega arith) (omega arith) (omega arith) c.of_sign.ensures

@@ -7,19 +7,15 @@ use Rattle.words.proofs.KeywordLaws.{by_letters, by_pairs, sign_matched, two_sho
 use Rattle.words.proofs.keywords.first_word.Goals as goal
 
 pub of_letters-requires : goal.of_letters-requires
-of_letters-requires c = let k = c in (omega arith, omega arith, k.first_row-k.ensures ∙ ap (place_of initials) k.requires.2, c.window-w.ensures)
+of_letters-requires c = (omega arith, omega arith, c.first_row-k.ensures ∙ ap (place_of initials) c.requires.2, c.window-w.ensures)
 
 pub returns-then-k-lt-COUNT : goal.returns-then-k-lt-COUNT
 returns-then-k-lt-COUNT c =
-    let k = c in
-    let z = k in
-    by_letters z.args.rest.now z.args.i (k.first_row-k.ensures ∙ ap (place_of initials) z.requires.2) (omega arith) (rw c.window-w.ensures at c.of_letters.ensures)
+    by_letters c.args.rest.now c.args.i (c.first_row-k.ensures ∙ ap (place_of initials) c.requires.2) (omega arith) (rw c.window-w.ensures at c.of_letters.ensures)
 
 pub returns : goal.returns
 returns c =
-    let k = c in
-    let z = k in
-    let t = z.args.rest.now in
-    let i = z.args.i in
-    by_pairs t i (k.first_row-k.ensures ∙ ap (place_of initials) z.requires.2) (omega arith)
-    (sign_matched c.pair-kind.ensures t 2 10 i _ (flags_of z.args.flags) (two_shown t i z.requires.2 c.shown_at-d.ensures) (omega arith) (omega arith) (omega arith) (omega arith) c.of_sign.ensures)
+    let t = c.args.rest.now in
+    let i = c.args.i in
+    by_pairs t i (c.first_row-k.ensures ∙ ap (place_of initials) c.requires.2) (omega arith)
+    (sign_matched c.pair-kind.ensures t 2 10 i _ (flags_of c.args.flags) (two_shown t i c.requires.2 c.shown_at-d.ensures) (omega arith) (omega arith) (omega arith) (omega arith) c.of_sign.ensures)

@@ -12,13 +12,11 @@ wide-requires c = tt
 
 pub returns-then-wide-w : goal.returns-then-wide-w
 returns-then-wide-w c =
-    let k = c in
-    leading_off k.loop-j.invariant (omega arith) (omega arith) (omega arith) (λ e. c.if-wide-w.true (c.wide.ensures ∙ e))
+    leading_off c.loop-j.invariant (omega arith) (omega arith) (omega arith) (λ e. c.if-wide-w.true (c.wide.ensures ∙ e))
 
 pub loop-j-preserved : goal.loop-j-preserved
 loop-j-preserved c =
-    let k = c in
-    leading_more k.loop-j.invariant (omega arith) (omega arith) (omega arith) (sym c.wide.ensures ∙ c.if-wide-w.false)
+    leading_more c.loop-j.invariant (omega arith) (omega arith) (omega arith) (sym c.wide.ensures ∙ c.if-wide-w.false)
 
 pub returns : goal.returns
 returns c = leading_end c.loop-j.invariant (omega arith) (omega arith)

@@ -7,7 +7,7 @@ use Rattle.words.proofs.keywords.of_letters.Goals as goal
 
 pub first_of-requires : goal.first_of-requires
 unfolding are_rows are_linked place_of initials
-first_of-requires c = let k = c in (refl, refl, k.requires.2, k.requires.3, omega arith, omega arith, omega arith)
+first_of-requires c = (refl, refl, c.requires.2, c.requires.3, omega arith, omega arith, omega arith)
 
 pub returns : goal.returns
 unfolding letter_words rows_of
