@@ -1,7 +1,7 @@
 -- The numbers of a lexer, test by test; and that a state read from its numbers has them again.
+use Rattle.std.specs.Prelude.{None, Some}
 use mathlib.Core.Path.{◌≡◌, refl, sym}
 use mathlib.Core.Bool.{Bool, true, false, cond}
-use mathlib.Core.Option.{none, some}
 use mathlib.Core.List.{List, [], ◌∷◌}
 use Prim.Native.Nat.{ℕ, ◌≤◌, ◌<◌}
 use native.Mathlib.Omega.{arith}
@@ -51,7 +51,7 @@ lexer_form ns h =
     record { sized = eqb-true _ _ a.0; flags = leb-true _ _ b.0; start = ltb-true _ _ c.0; pending = c.1 }
 
 -- A number that is given with a start token that is due, or 0.
-where_due : (b : Bool) (k : ℕ) (g : ℕ → ℕ) → cond b (g k) 0 ≡ maybe (cond b (some k) none) 0 g
+where_due : (b : Bool) (k : ℕ) (g : ℕ → ℕ) → cond b (g k) 0 ≡ maybe (cond b (Some k) None) 0 g
 where_due true k g = refl
 where_due false k g = refl
 

@@ -1,7 +1,7 @@
 -- The token call through numbers: refused for a form, or what the token call answers. The facts of a reading bound its value.
+use Rattle.std.specs.Prelude.{Option, None, Some}
 use mathlib.Core.Path.{◌≡◌, refl, sym, ap, ◌∙◌, subst}
 use mathlib.Core.Bool.{Bool, true, false, cond, ◌||◌}
-use mathlib.Core.Option.{Option, none, some}
 use mathlib.Core.List.{List, ◌++◌}
 use Prim.Native.Nat.{ℕ, ◌+◌, ◌*◌, ◌≤◌}
 use native.Mathlib.Omega.{arith}
@@ -40,9 +40,9 @@ module _ (l : Lent) (s : State) (t output scratch : List ℕ) where
   step_short : length t ≤ max_chars → length (cells_of (step (scope_of l) s t).read) ≤ max_chars
   step_short limit = go s.pending
     where
-      go : (k : Option ℕ) → length (cells_of (maybe k (spec.advanced s.position (run (drop s.position t) (read_token (is_name (scope_of l)) s.flags)).answer) (λ k. record { read = spec.start_read k; next = spec.state s.position s.flags none })).read) ≤ max_chars
-      go (some k) = omega arith
-      go none =
+      go : (k : Option ℕ) → length (cells_of (maybe k (spec.advanced s.position (run (drop s.position t) (read_token (is_name (scope_of l)) s.flags)).answer) (λ k. record { read = spec.start_read k; next = spec.state s.position s.flags None })).read) ≤ max_chars
+      go (Some k) = omega arith
+      go None =
           let w = sound (is_name (scope_of l)) s.flags (drop s.position t) (rw length-drop (omega arith)) in
           omega (arith, w.short, w.in_text, length-drop s.position t)
 

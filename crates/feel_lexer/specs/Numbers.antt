@@ -1,6 +1,5 @@
 -- State and answers as they cross to C: a few numbers each, at fixed places.
-use Rattle.std.specs.Prelude.{Bool, cond, ◌&&◌, List, [], ◌∷◌, ℕ, suc, eqb, leb, ltb, length, get_or}
-use Rattle.std.proofs.Math.Option.{none, some}
+use Rattle.std.specs.Prelude.{Bool, cond, ◌&&◌, List, [], ◌∷◌, ℕ, suc, eqb, leb, ltb, length, get_or, None, Some}
 use Rattle.reading.specs.Cells.{maybe}
 use Rattle.scope.specs.Limits.{max_contexts}
 use Rattle.scope.specs.Lent.{Lent}
@@ -52,7 +51,7 @@ abbrev pub lexer_size : ℕ
 lexer_size = 4
 
 abbrev pub state_at : List ℕ → State
-state_at ns = state (get_or ns 0 0) (bit_flags (get_or ns 1 0)) (cond (eqb (get_or ns 2 0) 1) (some (get_or ns 3 0)) none)
+state_at ns = state (get_or ns 0 0) (bit_flags (get_or ns 1 0)) (cond (eqb (get_or ns 2 0) 1) (Some (get_or ns 3 0)) None)
 
 abbrev pub lexer_numbers : State → List ℕ
 lexer_numbers s = s.position ∷ flag_bits s.flags ∷ maybe s.pending 0 (λ k. 1) ∷ maybe s.pending 0 (λ k. k) ∷ []

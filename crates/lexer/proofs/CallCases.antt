@@ -1,6 +1,6 @@
 -- Token calls with the slices that they leave: the host's refusals in their order, a start token, a value, a refusal of the text, computed.
+use Rattle.std.specs.Prelude.{None}
 use mathlib.Core.Path.{◌≡◌, refl}
-use mathlib.Core.Option.{none}
 use mathlib.Core.List.{List, [], ◌∷◌, map}
 use Prim.Native.Nat.{ℕ, zero, suc}
 use Rattle.reading.specs.Codes.{codes}
@@ -61,7 +61,7 @@ case n from t r place next output =
     }
 
 abbrev taken : ℕ → State
-taken p = state p no_flags none
+taken p = state p no_flags None
 
 abbrev pub cases : List Case
 cases =

@@ -1,7 +1,7 @@
 -- A name stays in the text, takes a cell, and its value is no longer than the cells taken: two words with nothing between them would have been one.
+use Rattle.std.specs.Prelude.{Option, None, Some}
 use mathlib.Core.Path.{◌≡◌, refl, sym, ap, ◌∙◌, subst}
 use mathlib.Core.Bool.{Bool, true, false, cond, ◌&&◌, false≢true, true≢false}
-use mathlib.Core.Option.{Option, none, some}
 use mathlib.Core.List.{List, [], ◌∷◌, map}
 use Prim.Native.Nat.{ℕ, zero, suc, ◌+◌, ◌-◌, ◌≤◌, ◌<◌}
 use native.Mathlib.Nat.{not-suc-le-zero}
@@ -119,13 +119,13 @@ ends-take lo hi tight from (suc m) [] h = tt
 ends-take lo hi tight from (suc m) (p ∷ ps) h = (h.0, h.1, h.2, ends-take lo hi (is_symbol_text (trim p.cells)) p.end m ps h.3)
 
 abbrev EndsIf : ℕ → ℕ → Bool → ℕ → Option (List Part) → Type 0
-EndsIf lo hi tight from none = Unit
-EndsIf lo hi tight from (some ps) = Ends lo hi tight from ps
+EndsIf lo hi tight from None = Unit
+EndsIf lo hi tight from (Some ps) = Ends lo hi tight from ps
 
 ends_with : (lo hi : ℕ) (tight : Bool) (from : ℕ) (p : Part) (o : Option (List Part)) → lo ≤ p.end → p.end ≤ hi → from + length (led tight (trim p.cells)) ≤ p.end
     → EndsIf lo hi (is_symbol_text (trim p.cells)) p.end o → EndsIf lo hi tight from (with_part p o)
-ends_with lo hi tight from p none x y z g = tt
-ends_with lo hi tight from p (some qs) x y z g = (x, y, z, g)
+ends_with lo hi tight from p None x y z g = tt
+ends_with lo hi tight from p (Some qs) x y z g = (x, y, z, g)
 
 ends-before_in : (lo hi : ℕ) (tight : Bool) (from : ℕ) (ps : List Part) → Ends lo hi tight from ps → EndsIf lo hi tight from (before_in ps)
 ends-before_in lo hi tight from [] h = tt
@@ -145,9 +145,9 @@ module _ (n lo hi from : ℕ) (within : hi ≤ n) where
 
   -- A prefix is not empty.
   abbrev Prefix : Option (List Part) → Type 0
-  Prefix none = Unit
-  Prefix (some []) = ⊥
-  Prefix (some (q ∷ qs)) = Ends lo hi true from (q ∷ qs)
+  Prefix None = Unit
+  Prefix (Some []) = ⊥
+  Prefix (Some (q ∷ qs)) = Ends lo hi true from (q ∷ qs)
 
   module _ (f : Flags) (is_name : List ℕ → Bool) (start : ℕ) (begins : start ≤ n) (p : Part) (ps : List Part) (next : Option ℕ) (all : Ends lo hi true from (p ∷ ps)) where
     longest-prefix : (found : List ℕ → Bool) (m : ℕ) → Prefix (longest found (p ∷ ps) m)
@@ -162,19 +162,19 @@ module _ (n lo hi from : ℕ) (within : hi ≤ n) where
         all
 
     by_prefix_lem : (o : Option (List Part)) → Prefix o → Named (by_prefix f is_name start (p ∷ ps) next hi o)
-    by_prefix_lem none g = all_parts_lem
-    by_prefix_lem (some []) g = absurd g
-    by_prefix_lem (some (q ∷ qs)) g = prefix_fine _ q qs refl g
+    by_prefix_lem None g = all_parts_lem
+    by_prefix_lem (Some []) g = absurd g
+    by_prefix_lem (Some (q ∷ qs)) g = prefix_fine _ q qs refl g
 
     by_in_lem : (o : Option (List Part)) → EndsIf lo hi true from o → Named (by_in f is_name start (p ∷ ps) next hi o)
-    by_in_lem none g = by_test Named (is 0x3A next) (λ _. all_fine _ p ps refl all)
+    by_in_lem None g = by_test Named (is 0x3A next) (λ _. all_fine _ p ps refl all)
         (λ _. by_prefix_lem (longest (is_found f is_name) (p ∷ ps) (length (p ∷ ps))) (longest-prefix (is_found f is_name) (length (p ∷ ps))))
-    by_in_lem (some []) g = over n lo start refl refl refl begins
-    by_in_lem (some (q ∷ qs)) g = prefix_fine _ q qs refl g
+    by_in_lem (Some []) g = over n lo start refl refl refl begins
+    by_in_lem (Some (q ∷ qs)) g = prefix_fine _ q qs refl g
 
     cut_named : Named (cut_name f is_name start (p ∷ ps) next hi)
     cut_named = by_test Named (starts_with (codes "item") (p ∷ ps)) (λ _. prefix_fine _ p [] refl (ends-take lo hi true from 1 (p ∷ ps) all))
-        (λ _. by_in_lem (cond f.till_in (before_in (p ∷ ps)) none) (by_test (EndsIf lo hi true from) f.till_in (λ _. ends-before_in lo hi true from (p ∷ ps) all) (λ _. tt)))
+        (λ _. by_in_lem (cond f.till_in (before_in (p ∷ ps)) None) (by_test (EndsIf lo hi true from) f.till_in (λ _. ends-before_in lo hi true from (p ∷ ps) all) (λ _. tt)))
 
 module _ (t : List ℕ) (k k' : ℕ) (enough : length t < k) (enough' : length t < k') (f : Flags) (is_name : List ℕ → Bool) (i : ℕ) where
   cut_walked : (ps : List Part) (hi : ℕ) → i ≤ length t → 0 < length ps → hi ≤ length t → Ends (suc i) hi true i ps → Fine (length t) (suc i) (cut_name f is_name i ps (cell_at t hi) hi).read (cut_name f is_name i ps (cell_at t hi) hi).used

@@ -1,6 +1,6 @@
 -- Skipping stays in the text and asks at most one cell behind it: by the rules of Ensures, for any two fuels above the text's length.
+use Rattle.std.specs.Prelude.{Option, None, Some}
 use mathlib.Core.Bool.{◌&&◌}
-use mathlib.Core.Option.{Option, none, some}
 use mathlib.Core.List.{List}
 use Prim.Native.Nat.{ℕ, zero, suc, ◌+◌, ◌-◌, ◌≤◌, ◌<◌}
 use native.Mathlib.Nat.{not-suc-le-zero}
@@ -35,8 +35,8 @@ module _ (t : List ℕ) (f f' : ℕ) (enough : length t < f) (enough' : length t
 
   -- A comment, if there is one, ends behind its first two characters.
   abbrev Behind : ℕ → Option ℕ → Type 0
-  Behind i none = Unit
-  Behind i (some j) = (i < j) × (j ≤ length t)
+  Behind i None = Unit
+  Behind i (Some j) = (i < j) × (j ≤ length t)
 
   comments : (i : ℕ) → i ≤ length t → Ensures t (far t) (Behind i) (comment f i) (comment f' i)
   comments i h = asks (omega arith) (asks (omega arith) (tests (is 0x2F (cell_at t i) && is 0x2F (cell_at t (i + 1)))
@@ -55,8 +55,8 @@ module _ (t : List ℕ) (f f' : ℕ) (enough : length t < f) (enough' : length t
     where
       next : (j : ℕ) → Passed is_whitespace t i j → (c : Option ℕ) → Behind j c → ((m : ℕ) → (i < m) × (m ≤ length t) → Ensures t (far t) (λ j. j ≤ length t) (skip_from f k m) (skip_from f' k' m))
           → Ensures t (far t) (λ j. j ≤ length t) (maybe c (done j) (λ m. skip_from f k m)) (maybe c (done j) (λ m. skip_from f' k' m))
-      next j d none g again = answers d.within
-      next j d (some m) g again = again m (let l = d.from in omega arith)
+      next j d None g again = answers d.within
+      next j d (Some m) g again = again m (let l = d.from in omega arith)
 
   pub skips : Ensures t (far t) (λ j. j ≤ length t) (skip f) (skip f')
   skips = skips_from f f' 0 (omega arith) (omega arith) (omega arith)

@@ -1,7 +1,7 @@
 -- Skipping in code follows the reading with a bound on its reach, which the window will cover.
+use Rattle.std.specs.Prelude.{Option, None, Some}
 use mathlib.Core.Path.{◌≡◌, refl, sym, ◌∙◌}
 use mathlib.Core.Bool.{Bool, true, false, cond, ◌&&◌}
-use mathlib.Core.Option.{Option, none, some}
 use mathlib.Core.List.{List}
 use Prim.Native.Nat.{ℕ, suc, ◌+◌, ◌-◌, ◌≤◌, ◌<◌}
 use native.Mathlib.Omega.{arith}
@@ -82,8 +82,8 @@ module _ {t : List ℕ} {from i : ℕ} (k : Closing t from i) (small : length t 
 -- A comment at i, by its first two characters.
 module _ (t : List ℕ) (i : ℕ) where
   looked : Going t (comment fuel i) (cond (is 0x2F (cell_at t i) && is 0x2F (cell_at t (i + 1)))
-      (gather is_in_line fuel (i + 2) >>= (λ r. done (some r.1)))
-      (cond (is 0x2F (cell_at t i) && is 0x2A (cell_at t (i + 1))) (block_end fuel (i + 2) >>= (λ j. done (some j))) (done none))) (i + 2)
+      (gather is_in_line fuel (i + 2) >>= (λ r. done (Some r.1)))
+      (cond (is 0x2F (cell_at t i) && is 0x2A (cell_at t (i + 1))) (block_end fuel (i + 2) >>= (λ j. done (Some j))) (done None))) (i + 2)
   looked = looks (looks (start t (comment fuel i)) (i + 1) (omega arith) (omega arith)) (i + 2) (omega arith) (omega arith)
 
   module _ (small : length t ≤ max_chars) {a : Bool} (p : a ≡ is 0x2F (cell_at t i)) where

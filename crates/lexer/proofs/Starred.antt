@@ -1,7 +1,7 @@
 -- 01's starred cases, and the slips that it names, as one computed theorem.
+use Rattle.std.specs.Prelude.{None}
 use mathlib.Core.Path.{◌≡◌, refl}
 use mathlib.Core.Bool.{true, false}
-use mathlib.Core.Option.{none}
 use mathlib.Core.List.{List, [], ◌∷◌, map}
 use Prim.Native.Nat.{ℕ, zero, suc}
 use Prim.Native.String.{String}
@@ -47,10 +47,10 @@ abbrev pub found : Case → Step
 found c =
     let t = codes c.text in
     let scope = variables c.names in
-    stepped c.calls scope (step scope (state 0 c.flags none) t) t
+    stepped c.calls scope (step scope (state 0 c.flags None) t) t
 
 abbrev pub expected : Case → Step
-expected c = record { read = c.read; next = state c.position c.after none }
+expected c = record { read = c.read; next = state c.position c.after None }
 
 abbrev plain : String → ℕ → Read → ℕ → Case
 plain t k r p = record { text = t; flags = no_flags; names = []; calls = k; read = r; position = p; after = no_flags }

@@ -1,7 +1,7 @@
 -- Each way through a string's inside, followed look by look with its reach, which a character may leave open by one.
+use Rattle.std.specs.Prelude.{Option, None, Some}
 use mathlib.Core.Path.{◌≡◌, refl, sym, ◌∙◌, ap, subst}
 use mathlib.Core.Bool.{false≢true, Bool, true, false, ◌||◌, not}
-use mathlib.Core.Option.{Option, none, some}
 use mathlib.Core.List.{List, [], ◌∷◌, ◌++◌}
 use Prim.Native.Nat.{ℕ, zero, suc, ◌+◌, ◌-◌, ◌*◌, ◌≤◌, ◌<◌, max}
 use native.Mathlib.Omega.{arith}
@@ -44,7 +44,7 @@ digit_met c d e = rw e
     below_end : (a b : ℕ) → within (to a b) c ≡ true → c ≤ b
     below_end a b h = leb-true c b (both (leb a c) (leb c b) h).1
 
-    small : (x : ℕ) → x < 16 → Met (some x)
+    small : (x : ℕ) → x < 16 → Met (Some x)
     small x h = rw (lt-ltb x 16 h)
 
 -- what i digits stay below
@@ -203,7 +203,7 @@ module _ (t : List ℕ) (i n : ℕ) (some : 0 < n) {r : Hex} (g : Hexed t i n r)
     point-one a b = read_one v (i + n) (i + n) (omega arith) in_text_lem (omega arith)
         (finds (rw (le-leb 0xD800 v (omega arith), lt-leb v 0xDBFF (omega arith), le-leb 0xDC00 v (omega arith), lt-leb v 0xDFFF a, le-ltb 0x10FFFF v b) at (rw q at pointed)))
 
-as_plain_some : (p : ℕ) → 0 < p → as_plain p ≡ some p
+as_plain_some : (p : ℕ) → 0 < p → as_plain p ≡ Some p
 as_plain_some p h = rw (ne_eqb p 0 (λ e. omega arith))
 
 module _ (t : List ℕ) (c i : ℕ) (room : i + 2 ≤ length t) (p : ℕ) (e : spec.plain_escape c ≡ as_plain p) where
@@ -214,7 +214,7 @@ module _ (t : List ℕ) (c i : ℕ) (room : i + 2 ≤ length t) (p : ℕ) (e : s
   escape_plain h = read_one p (i + 2) (i + 2) (omega arith) (omega arith) (omega arith) (rw (e, as_plain_some p h) (finds (begins t (i + 2) (done (spec.char p (i + 2))))))
 
   module _ (h : p ≤ 0) where
-    none_plain : spec.plain_escape c ≡ none
+    none_plain : spec.plain_escape c ≡ None
     none_plain = let z : p ≡ 0 = omega arith in e ∙ rw z
 
     module _ {b : Bool} (u : b ≡ eqb 0x75 c || eqb 0x55 c) where
@@ -236,7 +236,7 @@ module _ (t : List ℕ) (i : ℕ) where
   piece_eof l h r u = record { reach = i + 2; low = omega arith; high = omega arith; from = omega arith; within = h; goes = λ s. finds (rw (cell_out t i l) at (both_looked r u s)) }
 
   module _ (l : i < length t) where
-    there_looked : (r : ℕ) → r ≤ i + 1 → (s : List ℕ) → Stands t r (spec.read_piece i s) (spec.piece_of i s (some (get_or t i 0)) (cell_at t (i + 1))) (i + 2)
+    there_looked : (r : ℕ) → r ≤ i + 1 → (s : List ℕ) → Stands t r (spec.read_piece i s) (spec.piece_of i s (Some (get_or t i 0)) (cell_at t (i + 1))) (i + 2)
     there_looked r h s = rw (cell_in t i l) at (both_looked r h s)
 
     module _ (e : 0x5C ≡ get_or t i 0) where

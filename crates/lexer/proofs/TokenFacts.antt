@@ -1,7 +1,7 @@
 -- The facts of a reading, about the token reader: progress, within the text, used ≤ reach ≤ rest + 12, value no longer than used, and no trust in the fuel.
+use Rattle.std.specs.Prelude.{Option, None, Some}
 use mathlib.Core.Path.{◌≡◌, refl, sym, ap, ◌∙◌}
 use mathlib.Core.Bool.{Bool, true, false, ◌&&◌, not, false≢true}
-use mathlib.Core.Option.{Option, none, some}
 use mathlib.Core.List.{List, [], ◌∷◌}
 use Prim.Native.Nat.{ℕ, zero, suc, ◌+◌, ◌≤◌, ◌<◌}
 use native.Mathlib.Numerals.{add-one}
@@ -33,8 +33,8 @@ use Rattle.lexer.proofs.NameFacts.{names_read}
 
 -- What is shown passes a test that a space does not pass: then so does the cell.
 pub shown-holds : (p : ℕ → Bool) (c : Option ℕ) → p 0x20 ≡ false → p (shown c) ≡ true → holds p c ≡ true
-shown-holds p none e h = absurd (false≢true (sym e ∙ h))
-shown-holds p (some c) e h = by_test (λ z. p z ≡ true → p c ≡ true) (is_whitespace c) (λ _ h. absurd (false≢true (sym e ∙ h))) (λ _ h. h) h
+shown-holds p None e h = absurd (false≢true (sym e ∙ h))
+shown-holds p (Some c) e h = by_test (λ z. p z ≡ true → p c ≡ true) (is_whitespace c) (λ _ h. absurd (false≢true (sym e ∙ h))) (λ _ h. h) h
 
 -- Of a row: its word is not empty and has no space, and its value has the form of its type and no cells.
 abbrev no_space : List ℕ → Bool

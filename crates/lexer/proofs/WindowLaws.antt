@@ -1,7 +1,7 @@
 -- The window grows by one cell at its end, as the loop fills it, and is what the reading gives, with its reach.
+use Rattle.std.specs.Prelude.{Some}
 use mathlib.Core.Path.{◌≡◌, refl, sym, ap, ◌∙◌}
 use mathlib.Core.Bool.{Bool, true, false, ◌&&◌, ◌||◌}
-use mathlib.Core.Option.{some}
 use mathlib.Core.List.{List, [], ◌∷◌, ◌++◌}
 use Prim.Native.Nat.{ℕ, zero, suc, ◌+◌, ◌≤◌, ◌<◌, max}
 use native.Mathlib.Nat.{add-zero}
@@ -31,11 +31,11 @@ module _ (t : List ℕ) (i : ℕ) (h : i < length t) {b : Bool} (p : b ≡ is_wh
   pub shown_self : b ≡ false → get_or t i 0 ≡ shown (cell_at t i)
   shown_self e = rw (cell_in t i h, ← p, e)
 
-plain_self : (c : ℕ) → within (to 0x20 0x84) c ≡ true → shown (some c) ≡ c
+plain_self : (c : ℕ) → within (to 0x20 0x84) c ≡ true → shown (Some c) ≡ c
 unfolding is_whitespace among
 plain_self c h =
     let b = both (leb 0x20 c) _ h in
-    let k = below (λ x. ltb x 0x20 || eqb (shown (some x)) x) 0x85 refl c (omega (arith, leb-true c 0x84 b.1)) in
+    let k = below (λ x. ltb x 0x20 || eqb (shown (Some x)) x) 0x85 refl c (omega (arith, leb-true c 0x84 b.1)) in
     eqb-true _ _ (rw (le-ltb c 0x20 (leb-true 0x20 c b.0)) at k)
 
 pub shown-plain : (t : List ℕ) (i : ℕ) → i < length t → within (to 0x20 0x84) (get_or t i 0) ≡ true → get_or t i 0 ≡ shown (cell_at t i)

@@ -1,6 +1,5 @@
 -- What the code of the readers answers, in the terms of the readings.
-use Rattle.std.proofs.Math.Option.{Option, none, some}
-use Rattle.std.specs.Prelude.{List, ℕ, ◌+◌, ◌≤◌, ◌<◌, length}
+use Rattle.std.specs.Prelude.{List, ℕ, ◌+◌, ◌≤◌, ◌<◌, length, Option, None, Some}
 use Rattle.reading.specs.Goes.{Reads}
 use Rattle.lexer.specs.Skip.{block_end, comment}
 use Rattle.lexer.specs.Token.{fuel}
@@ -14,8 +13,8 @@ pub record BlockEnds (t : List ℕ) (i r : ℕ) : Type 0 where
   pub reads : Reads t (block_end fuel i) r (r + 1)
 
 abbrev pub found_of : Found → Option ℕ
-found_of Nothing = none
-found_of (At j) = some j
+found_of Nothing = None
+found_of (At j) = Some j
 
 -- A comment at i ends behind i and has been looked at to its end; or there is none.
 abbrev pub Behind : List ℕ → ℕ → Found → Type 0

@@ -1,6 +1,5 @@
 -- The lexer's state and the token call, with the refusals of the host.
-use Rattle.std.specs.Prelude.{true, cond, ◌||◌, List, [], ◌∷◌, ℕ, ◌+◌, ◌*◌, ltb, length, drop}
-use Rattle.std.proofs.Math.Option.{Option, none, some}
+use Rattle.std.specs.Prelude.{true, cond, ◌||◌, List, [], ◌∷◌, ℕ, ◌+◌, ◌*◌, ltb, length, drop, Option, None, Some}
 use Rattle.reading.specs.Look.{run}
 use Rattle.reading.specs.Cells.{maybe, is_one_of}
 use Rattle.reading.specs.Slices.{front, zeros}
@@ -25,7 +24,7 @@ state p f k = record { position = p; flags = f; pending = k }
 
 -- `Lexer::new`.
 abbrev pub new_lexer : ℕ → State
-new_lexer k = state 0 no_flags (some k)
+new_lexer k = state 0 no_flags (Some k)
 
 -- The five setters: they set, none clears.
 abbrev pub set : Flag → State → State
@@ -45,13 +44,13 @@ pub record Step : Type 0 where
   pub next : State
 
 abbrev pub advanced : ℕ → Outcome → Step
-advanced p o = record { read = o.read; next = state (p + o.used) o.flags none }
+advanced p o = record { read = o.read; next = state (p + o.used) o.flags None }
 
 -- The start token comes first and changes nothing but itself; then the text from the position on is read.
 abbrev pub step : ParsingScope → State → List ℕ → Step
 step scope s t = maybe s.pending
     (advanced s.position (run (drop s.position t) (read_token (is_name scope) s.flags)).answer)
-    (λ k. record { read = start_read k; next = state s.position s.flags none })
+    (λ k. record { read = start_read k; next = state s.position s.flags None })
 
 -- All that a token call leaves. 01: place is the position after, of a refusal by the host the position that it was handed.
 pub record Called : Type 0 where

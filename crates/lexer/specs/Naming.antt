@@ -1,6 +1,5 @@
 -- Cutting a name: which of the parts are its own, decided in 01's order.
-use Rattle.std.specs.Prelude.{Bool, false, cond, ◌&&◌, ◌||◌, List, [], ◌∷◌, map, ℕ, zero, suc, length, take}
-use Rattle.std.proofs.Math.Option.{Option, none, some}
+use Rattle.std.specs.Prelude.{Bool, false, cond, ◌&&◌, ◌||◌, List, [], ◌∷◌, map, ℕ, zero, suc, length, take, Option, None, Some}
 use Rattle.reading.specs.Codes.{codes}
 use Rattle.reading.specs.Look.{Look, done, ◌>>=◌, look}
 use Rattle.reading.specs.Cells.{is}
@@ -32,13 +31,13 @@ starts_with x [] = false
 starts_with x (p ∷ ps) = same p.cells x
 
 abbrev pub with_part : Part → Option (List Part) → Option (List Part)
-with_part p none = none
-with_part p (some qs) = some (p ∷ qs)
+with_part p None = None
+with_part p (Some qs) = Some (p ∷ qs)
 
 -- The parts before the first that is `in`.
 abbrev pub before_in : List Part → Option (List Part)
-before_in [] = none
-before_in (p ∷ ps) = cond (same p.cells (codes "in")) (some []) (with_part p (before_in ps))
+before_in [] = None
+before_in (p ∷ ps) = cond (same p.cells (codes "in")) (Some []) (with_part p (before_in ps))
 
 -- The parts' flattening is found.
 abbrev pub fits : (List ℕ → Bool) → List Part → Bool
@@ -46,8 +45,8 @@ fits found ps = found (flatten (texts ps))
 
 -- The longest prefix of at most n parts that fits.
 abbrev pub longest : (List ℕ → Bool) → List Part → ℕ → Option (List Part)
-longest found ps zero = none
-longest found ps (suc n) = cond (fits found (take (suc n) ps)) (some (take (suc n) ps)) (longest found ps n)
+longest found ps zero = None
+longest found ps (suc n) = cond (fits found (take (suc n) ps)) (Some (take (suc n) ps)) (longest found ps n)
 
 -- Under `after_dot` the text is a property; a text that is a scope name, too, counts as a property.
 abbrev pub is_property : Flags → List ℕ → Bool
@@ -66,14 +65,14 @@ module _ (f : Flags) (is_name : List ℕ → Bool) (start : ℕ) (ps : List Part
 
   -- By the longest prefix found. A property match clears `after_dot`, a scope match clears nothing.
   abbrev pub by_prefix : Option (List Part) → Outcome
-  by_prefix none = all_parts
-  by_prefix (some qs) = outcome (token TokenType.Name (name_of qs)) (end_of qs) (cond (fits (is_property f) qs) (clear AfterDot f) f)
+  by_prefix None = all_parts
+  by_prefix (Some qs) = outcome (token TokenType.Name (name_of qs)) (end_of qs) (cond (fits (is_property f) qs) (clear AfterDot f) f)
 
   -- By the parts before `in`: with none of them it is 8, at the first part.
   abbrev pub by_in : Option (List Part) → Outcome
-  by_in (some []) = outcome (refused starts_with_in 0) start f
-  by_in (some (q ∷ qs)) = outcome (token TokenType.Name (name_of (q ∷ qs))) (end_of (q ∷ qs)) (clear TillIn f)
-  by_in none =
+  by_in (Some []) = outcome (refused starts_with_in 0) start f
+  by_in (Some (q ∷ qs)) = outcome (token TokenType.Name (name_of (q ∷ qs))) (end_of (q ∷ qs)) (clear TillIn f)
+  by_in None =
       cond (is 0x3A next) (outcome (token TokenType.Name (name_of ps)) end f)
       (by_prefix (longest (is_found f is_name) ps (length ps)))
 
@@ -81,7 +80,7 @@ module _ (f : Flags) (is_name : List ℕ → Bool) (start : ℕ) (ps : List Part
   abbrev pub cut_name : Outcome
   cut_name =
       cond (starts_with (codes "item") ps) (outcome (token TokenType.Name (name_of (take 1 ps))) (end_of (take 1 ps)) f)
-      (by_in (cond f.till_in (before_in ps) none))
+      (by_in (cond f.till_in (before_in ps) None))
 
 abbrev pub read_name : ℕ → Flags → (List ℕ → Bool) → ℕ → Look Outcome
 read_name fuel f is_name start = do

@@ -1,6 +1,5 @@
 -- What the code of strings answers, in the terms of the readings.
-use Rattle.std.specs.Prelude.{◌≡◌, cond, List, [], ℕ, ◌+◌, ◌≤◌, ◌<◌, ltb, eqb, length, get_or}
-use Rattle.std.proofs.Math.Option.{Option, none, some}
+use Rattle.std.specs.Prelude.{◌≡◌, cond, List, [], ℕ, ◌+◌, ◌≤◌, ◌<◌, ltb, eqb, length, get_or, Option, None, Some}
 use Rattle.reading.specs.Look.{Look}
 use Rattle.reading.specs.Goes.{Goes}
 use Rattle.reading.specs.Slices.{Wrote}
@@ -17,11 +16,11 @@ use Rattle.lexer.specs.declared.string.Piece.TheVariants.{Char, Quote, LineEnd, 
 
 -- a digit's value; 16 says that there is none
 abbrev pub as_digit : ℕ → Option ℕ
-as_digit d = cond (ltb d 16) (some d) none
+as_digit d = cond (ltb d 16) (Some d) None
 
 -- what a plain escape stands for; 0 says that it is none
 abbrev pub as_plain : ℕ → Option ℕ
-as_plain c = cond (eqb c 0) none (some c)
+as_plain c = cond (eqb c 0) None (Some c)
 
 abbrev pub hex_of : Hex → spec.Hex
 hex_of (Value v) = spec.value v

@@ -1,6 +1,5 @@
 -- Skipping whitespace and comments. Loops take at most fuel turns (`any_fuel`, proofs/TokenFacts: any fuel above the text's length reads the same).
-use Rattle.std.specs.Prelude.{Bool, cond, ◌&&◌, not, ℕ, zero, suc, ◌+◌, eqb}
-use Rattle.std.proofs.Math.Option.{Option, none, some}
+use Rattle.std.specs.Prelude.{Bool, cond, ◌&&◌, not, ℕ, zero, suc, ◌+◌, eqb, Option, None, Some}
 use Rattle.reading.specs.Look.{Look, done, ask, ◌>>=◌, look}
 use Rattle.reading.specs.Cells.{maybe, is}
 use Rattle.reading.specs.Span.{gather}
@@ -32,12 +31,12 @@ module _ (fuel : ℕ) where
     cond (is 0x2F a && is 0x2F b)
         (do
           r ← gather is_in_line fuel (i + 2)
-          done (some r.1))
+          done (Some r.1))
         (cond (is 0x2F a && is 0x2A b)
         (do
           j ← block_end fuel (i + 2)
-          done (some j))
-        (done none))
+          done (Some j))
+        (done None))
 
   -- The first character that is neither whitespace nor in a comment, from i on.
   unfoldable pub skip_from : ℕ → ℕ → Look ℕ

@@ -1,6 +1,5 @@
 -- String literals, with DMN's escapes.
-use Rattle.std.specs.Prelude.{Bool, cond, ◌||◌, List, [], ◌∷◌, ◌++◌, ℕ, zero, suc, ◌+◌, ◌-◌, ◌*◌, ltb, eqb}
-use Rattle.std.proofs.Math.Option.{Option, none, some}
+use Rattle.std.specs.Prelude.{Bool, cond, ◌||◌, List, [], ◌∷◌, ◌++◌, ℕ, zero, suc, ◌+◌, ◌-◌, ◌*◌, ltb, eqb, Option, None, Some}
 use Rattle.reading.specs.Look.{Look, done, ask, ◌>>=◌, look}
 use Rattle.reading.specs.Cells.{maybe}
 use Rattle.text.specs.Ranges.{to, within}
@@ -70,8 +69,8 @@ read_unicode n i = do
 -- The six plain escapes: the letter behind the backslash and what it stands for.
 abbrev pub plain_escape : ℕ → Option ℕ
 plain_escape c =
-    cond (eqb 0x27 c) (some 0x27) (cond (eqb 0x22 c) (some 0x22) (cond (eqb 0x5C c) (some 0x5C)
-    (cond (eqb 0x6E c) (some 0x0A) (cond (eqb 0x72 c) (some 0x0D) (cond (eqb 0x74 c) (some 0x09) none)))))
+    cond (eqb 0x27 c) (Some 0x27) (cond (eqb 0x22 c) (Some 0x22) (cond (eqb 0x5C c) (Some 0x5C)
+    (cond (eqb 0x6E c) (Some 0x0A) (cond (eqb 0x72 c) (Some 0x0D) (cond (eqb 0x74 c) (Some 0x09) None)))))
 
 -- A backslash at i with the character c behind it. 01: another backslash is copied.
 abbrev pub read_escape : ℕ → ℕ → Look Piece

@@ -1,6 +1,5 @@
 -- The window of twelve characters, and the words and symbols that are tried on it, in the source's order.
-use Rattle.std.specs.Prelude.{Bool, true, false, cond, ◌&&◌, not, List, [], ◌∷◌, ℕ, zero, suc, ◌+◌, eqb, length, get_or}
-use Rattle.std.proofs.Math.Option.{Option, none, some}
+use Rattle.std.specs.Prelude.{Bool, true, false, cond, ◌&&◌, not, List, [], ◌∷◌, ℕ, zero, suc, ◌+◌, eqb, length, get_or, Option, None, Some}
 use Prim.Native.String.{String}
 use Rattle.reading.specs.Codes.{codes}
 use Rattle.reading.specs.Look.{Look, done, ◌>>=◌, look}
@@ -13,8 +12,8 @@ use Rattle.lexer.specs.TokenType
 
 -- 01: whitespace and end are shown as a space.
 abbrev pub shown : Option ℕ → ℕ
-shown none = 0x20
-shown (some c) = cond (is_whitespace c) 0x20 c
+shown None = 0x20
+shown (Some c) = cond (is_whitespace c) 0x20 c
 
 unfoldable pub window : ℕ → ℕ → Look (List ℕ)
 window zero i = done []

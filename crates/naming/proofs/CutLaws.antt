@@ -1,7 +1,7 @@
 -- A loop along the parts stands behind the first m of them; what is left are the parts from there on.
+use Rattle.std.specs.Prelude.{Option, None, Some}
 use mathlib.Core.Path.{◌≡◌, refl, sym, ap, ◌∙◌, subst}
 use mathlib.Core.Bool.{Bool, true, false, cond, ◌&&◌, false≢true}
-use mathlib.Core.Option.{Option, none, some}
 use mathlib.Core.List.{List, [], ◌∷◌, ◌++◌, map, append_assoc, append-nil}
 use Prim.Native.Nat.{ℕ, zero, suc, ◌+◌, ◌-◌, ◌≤◌, ◌<◌}
 use native.Mathlib.Omega.{arith}
@@ -87,32 +87,32 @@ module _ {t : List ℕ} {from i m : ℕ} (g : Stepping t from i m) {p : Next} (q
 pub record Seeking (t : List ℕ) (from n i m : ℕ) : Type 0 where
   pub upto : m ≤ n
   pub steps : Stepping t from i m
-  pub free : before_in (prefix t m from) ≡ none
+  pub free : before_in (prefix t m from) ≡ None
 
 pub seeking_none : (t : List ℕ) (from n : ℕ) → from ≤ length t → Seeking t from n from 0
 seeking_none t from n h = record { upto = omega arith; steps = stepping_none t from h; free = rw (prefix_none t from) refl }
 
 abbrev is_none : Option (List Part) → Bool
-is_none none = true
-is_none (some ps) = false
+is_none None = true
+is_none (Some ps) = false
 
-with_none : (p : Part) (o : Option (List Part)) → with_part p o ≡ none → o ≡ none
-with_none p none e = refl
-with_none p (some qs) e = absurd (false≢true (ap is_none e))
+with_none : (p : Part) (o : Option (List Part)) → with_part p o ≡ None → o ≡ None
+with_none p None e = refl
+with_none p (Some qs) e = absurd (false≢true (ap is_none e))
 
-in_snoc : (ps : List Part) (p : Part) (qs : List Part) → before_in ps ≡ none → same p.cells (codes "in") ≡ true → before_in (ps ++ p ∷ qs) ≡ some ps
+in_snoc : (ps : List Part) (p : Part) (qs : List Part) → before_in ps ≡ None → same p.cells (codes "in") ≡ true → before_in (ps ++ p ∷ qs) ≡ Some ps
 in_snoc [] p qs f h = rw h
 in_snoc (q ∷ ps) p qs f h = go (same q.cells (codes "in")) (λ e. in_snoc ps p qs e h) f
   where
-    go : (b : Bool) → (before_in ps ≡ none → before_in (ps ++ p ∷ qs) ≡ some ps) → cond b (some []) (with_part q (before_in ps)) ≡ none → cond b (some []) (with_part q (before_in (ps ++ p ∷ qs))) ≡ some (q ∷ ps)
+    go : (b : Bool) → (before_in ps ≡ None → before_in (ps ++ p ∷ qs) ≡ Some ps) → cond b (Some []) (with_part q (before_in ps)) ≡ None → cond b (Some []) (with_part q (before_in (ps ++ p ∷ qs))) ≡ Some (q ∷ ps)
     go true k e = absurd (false≢true (ap is_none e))
     go false k e = rw (k (with_none q (before_in ps) e))
 
-out_snoc : (ps : List Part) (p : Part) → before_in ps ≡ none → same p.cells (codes "in") ≡ false → before_in (ps ++ p ∷ []) ≡ none
+out_snoc : (ps : List Part) (p : Part) → before_in ps ≡ None → same p.cells (codes "in") ≡ false → before_in (ps ++ p ∷ []) ≡ None
 out_snoc [] p f h = rw h
 out_snoc (q ∷ ps) p f h = go (same q.cells (codes "in")) (λ e. out_snoc ps p e h) f
   where
-    go : (b : Bool) → (before_in ps ≡ none → before_in (ps ++ p ∷ []) ≡ none) → cond b (some []) (with_part q (before_in ps)) ≡ none → cond b (some []) (with_part q (before_in (ps ++ p ∷ []))) ≡ none
+    go : (b : Bool) → (before_in ps ≡ None → before_in (ps ++ p ∷ []) ≡ None) → cond b (Some []) (with_part q (before_in ps)) ≡ None → cond b (Some []) (with_part q (before_in (ps ++ p ∷ []))) ≡ None
     go true k e = absurd (false≢true (ap is_none e))
     go false k e = rw (k (with_none q (before_in ps) e))
 

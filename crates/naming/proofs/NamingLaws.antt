@@ -1,7 +1,7 @@
 -- Each decision of the code is a clause of `cut_name`: the longest prefix by its number of parts, the parts before `in`, a colon.
+use Rattle.std.specs.Prelude.{Option, None, Some}
 use mathlib.Core.Path.{◌≡◌, refl, sym, ap, ◌∙◌, subst}
 use mathlib.Core.Bool.{Bool, true, false, cond}
-use mathlib.Core.Option.{Option, none, some}
 use mathlib.Core.List.{List, [], ◌∷◌}
 use Prim.Native.Nat.{ℕ, zero, suc, ◌+◌, ◌≤◌, ◌<◌}
 use native.Mathlib.Omega.{arith}
@@ -43,8 +43,8 @@ gives_flags {c} {u} {reach = reach} {o} {o'} {r} e g = subst (λ x. Gives (outco
 
 -- The longest prefix, by its number of parts.
 abbrev parts_of : List ℕ → ℕ → ℕ → Option (List Part)
-parts_of t from zero = none
-parts_of t from (suc k) = some (prefix t (suc k) from)
+parts_of t from zero = None
+parts_of t from (suc k) = Some (prefix t (suc k) from)
 
 module _ (found : List ℕ → Bool) (t : List ℕ) (from n : ℕ) where
   fit-longest : (k : ℕ) → k ≤ n → longest found (prefix t n from) k ≡ parts_of t from (fit found t from k)
@@ -53,7 +53,7 @@ module _ (found : List ℕ → Bool) (t : List ℕ) (from n : ℕ) where
   fit-longest (suc k) h = rw (prefix-take t (suc k) n from h) (go (fits found (prefix t (suc k) from)) (fit-longest k (omega arith)))
     where
       go : (b : Bool) → longest found (prefix t n from) k ≡ parts_of t from (fit found t from k)
-          → cond b (some (prefix t (suc k) from)) (longest found (prefix t n from) k) ≡ parts_of t from (cond b (suc k) (fit found t from k))
+          → cond b (Some (prefix t (suc k) from)) (longest found (prefix t n from) k) ≡ parts_of t from (cond b (suc k) (fit found t from k))
       go true q = refl
       go false q = q
 
@@ -90,31 +90,31 @@ module _ {f : Flags} {is_name : List ℕ → Bool} {t : List ℕ} {from n m : �
 
 -- A colon behind the parts.
 module _ (f : Flags) (is_name : List ℕ → Bool) (t : List ℕ) (from n end : ℕ) {b : Bool} (p : b ≡ is 0x3A (cell_at t end)) where
-  pub colon_there : b ≡ true → by_in_of f is_name t from n end none ≡ outcome (token TokenType.Name (name_of (prefix t n from))) end f
+  pub colon_there : b ≡ true → by_in_of f is_name t from n end None ≡ outcome (token TokenType.Name (name_of (prefix t n from))) end f
   colon_there e = rw (sym p ∙ e)
 
-  pub colon_not : b ≡ false → by_in_of f is_name t from n end none ≡ by_prefix_of f is_name t from n end
+  pub colon_not : b ≡ false → by_in_of f is_name t from n end None ≡ by_prefix_of f is_name t from n end
   colon_not e = rw (sym p ∙ e)
 
 -- The parts before `in`.
 module _ (f : Flags) (is_name : List ℕ → Bool) (t : List ℕ) (from n end : ℕ) where
-  pub in_off : f.till_in ≡ false → cut_in_of f is_name t from n end ≡ by_in_of f is_name t from n end none
+  pub in_off : f.till_in ≡ false → cut_in_of f is_name t from n end ≡ by_in_of f is_name t from n end None
   in_off e = rw e
 
   module _ (e : f.till_in ≡ true) {m : ℕ} (b : Before t from n m) where
-    pub in_not : n ≤ m → cut_in_of f is_name t from n end ≡ by_in_of f is_name t from n end none
+    pub in_not : n ≤ m → cut_in_of f is_name t from n end ≡ by_in_of f is_name t from n end None
     in_not h = rw (e, b.whole h)
 
     pub in_first : m < n → m ≡ 0 → cut_in_of f is_name t from n end ≡ outcome (refused starts_with_in 0) from f
     unfolding prefix
     in_first h z = rw (e, b.cut h, z)
 
-    some_in : (qs : List Part) → 0 < length qs → by_in_of f is_name t from n end (some qs) ≡ outcome (token TokenType.Name (name_of qs)) (end_of qs) (clear TillIn f)
+    some_in : (qs : List Part) → 0 < length qs → by_in_of f is_name t from n end (Some qs) ≡ outcome (token TokenType.Name (name_of qs)) (end_of qs) (clear TillIn f)
     some_in [] h = absurd (omega arith)
     some_in (q ∷ qs) h = refl
 
     pub in_later : m < n → 0 < m → length (prefix t m from) ≡ m → cut_in_of f is_name t from n end ≡ outcome (token TokenType.Name (name_of (prefix t m from))) (end_of (prefix t m from)) (clear TillIn f)
-    in_later h l c = ap (λ x. by_in_of f is_name t from n end (cond x (before_in (prefix t n from)) none)) e ∙ ap (by_in_of f is_name t from n end) (b.cut h) ∙ some_in (prefix t m from) (omega arith)
+    in_later h l c = ap (λ x. by_in_of f is_name t from n end (cond x (before_in (prefix t n from)) None)) e ∙ ap (by_in_of f is_name t from n end) (b.cut h) ∙ some_in (prefix t m from) (omega arith)
 
 -- The first part alone decides on `item`.
 starts_leads : (t x : List ℕ) (p : Next) (ps qs : List Part) → starts_with x (leads t p ps) ≡ starts_with x (leads t p qs)

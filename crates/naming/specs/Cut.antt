@@ -1,6 +1,5 @@
 -- What the cutting of a name finds out about its parts.
-use Rattle.std.specs.Prelude.{◌≡◌, Bool, true, cond, List, ℕ, ◌≤◌, ◌<◌, length}
-use Rattle.std.proofs.Math.Option.{Option, none, some}
+use Rattle.std.specs.Prelude.{◌≡◌, Bool, true, cond, List, ℕ, ◌≤◌, ◌<◌, length, Option, None, Some}
 use Rattle.reading.specs.Look.{cell_at}
 use Rattle.lexer.specs.Naming.{before_in, is_found, longest, by_prefix, by_in}
 use Rattle.lexer.specs.Flags.{Flags}
@@ -11,8 +10,8 @@ use Rattle.lexer.specs.Places.{prefix, spelling}
 -- Of the first n parts from `from` on, r stand before the first that is `in`; n if none is.
 pub record Before (t : List ℕ) (from n r : ℕ) : Type 0 where
   pub less : r ≤ n
-  pub cut : r < n → before_in (prefix t n from) ≡ some (prefix t r from)
-  pub whole : n ≤ r → before_in (prefix t n from) ≡ none
+  pub cut : r < n → before_in (prefix t n from) ≡ Some (prefix t r from)
+  pub whole : n ≤ r → before_in (prefix t n from) ≡ None
 
 -- The value of each prefix of at most n parts has room in k cells.
 pub record Roomy (t : List ℕ) (from n k : ℕ) : Type 0 where
@@ -27,4 +26,4 @@ module _ (f : Flags) (is_name : List ℕ → Bool) (t : List ℕ) (from n end : 
   by_in_of o = by_in f is_name from (prefix t n from) (cell_at t end) end o
 
   abbrev pub cut_in_of : Outcome
-  cut_in_of = by_in_of (cond f.till_in (before_in (prefix t n from)) none)
+  cut_in_of = by_in_of (cond f.till_in (before_in (prefix t n from)) None)

@@ -1,5 +1,5 @@
 // Names: which of the parts at a place are one name, decided in the order of `cut_name`.
-ghost use Rattle.std.specs.Prelude.{◌≡◌, true, false, ◌&&◌, Bool, List, ℕ, ◌+◌, ◌≤◌, ◌<◌, length};
+ghost use Rattle.std.specs.Prelude.{◌≡◌, true, false, ◌&&◌, Bool, List, ℕ, ◌+◌, ◌≤◌, ◌<◌, length, None};
 ghost use Rattle.reading.specs.Look.{cell_at};
 ghost use Rattle.reading.specs.Cells.{holds, is};
 ghost use Rattle.text.specs.Limits.{max_chars};
@@ -17,7 +17,6 @@ ghost use Rattle.lexer.specs.FlagsOf.{flags_of};
 ghost use Rattle.lexer.specs.Fit.{Searchable};
 ghost use Rattle.lexer.specs.Taken.{Gives, Takes};
 ghost use Rattle.naming.specs.Cut.{Before, Roomy, by_prefix_of, by_in_of, cut_in_of};
-ghost use Rattle.std.proofs.Math.Option.{none};
 
 use lexer::flags::Flags;
 use lexer::token::{Outcome, Read};
@@ -225,7 +224,7 @@ fn by_colon(
     scratch: &mut [u32],
 ) -> Outcome
     requires { Counted rest.now from n end × Roomy rest.now from n (length out.old) × Searchable rest.now (lent s slots.now names.now) cap scratch.old }
-    ensures { Gives (by_in_of (flags_of flags) (is_name (scope_of (lent s slots.now names.now))) rest.now from n end none) (end + 1) out.old result out.new
+    ensures { Gives (by_in_of (flags_of flags) (is_name (scope_of (lent s slots.now names.now))) rest.now from n end None) (end + 1) out.old result out.new
         × (scratch.new ≡ scratch.old) }
 {
     if lexer::look::is_at(rest, end, Char::COLON) {

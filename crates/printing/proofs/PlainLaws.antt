@@ -1,7 +1,7 @@
 -- A number's value is digits, whatever the text: the reader's answers, way by way, with no thought of looks or fuel.
+use Rattle.std.specs.Prelude.{Option, None, Some}
 use mathlib.Core.Path.{◌≡◌, refl, sym, subst}
 use mathlib.Core.Bool.{Bool, true, false, cond, ◌&&◌, ◌||◌}
-use mathlib.Core.Option.{Option, none, some}
 use mathlib.Core.List.{List, [], ◌∷◌, ◌++◌}
 use Prim.Native.Nat.{ℕ, zero, suc, ◌+◌}
 use lib.Dec.{ltb, eqb}
@@ -51,8 +51,8 @@ module _ {A : Type 0} {P : A → Type 0} where
   tests false f y = y
 
   chooses : {B : Type 0} (o : Option B) {x : Look A} {f : B → Look A} → Always P x → ((b : B) → Always P (f b)) → Always P (maybe o x f)
-  chooses none x f = x
-  chooses (some b) x f = f b
+  chooses None x f = x
+  chooses (Some b) x f = f b
 
 pub both_true : {a b : Bool} → a ≡ true → b ≡ true → a && b ≡ true
 both_true p q = rw (p, q)
@@ -140,16 +140,16 @@ module _ (f : Flags) (is_name : List ℕ → Bool) (start : ℕ) (ps : List Part
       (λ _. by_test (λ k. is_plain (token k (name_of ps)) ≡ true) (member (new_name (texts ps)) temporal_names && is 0x28 next) (λ _. refl) (λ _. refl))
 
   by_prefix_lem : (o : Option (List Part)) → PlainOutcome (by_prefix f is_name start ps next end o)
-  by_prefix_lem none = all_parts_lem
-  by_prefix_lem (some qs) = refl
+  by_prefix_lem None = all_parts_lem
+  by_prefix_lem (Some qs) = refl
 
   by_in_lem : (o : Option (List Part)) → PlainOutcome (by_in f is_name start ps next end o)
-  by_in_lem (some []) = refl
-  by_in_lem (some (q ∷ qs)) = refl
-  by_in_lem none = by_test PlainOutcome (is 0x3A next) (λ _. refl) (λ _. by_prefix_lem (longest (is_found f is_name) ps (length ps)))
+  by_in_lem (Some []) = refl
+  by_in_lem (Some (q ∷ qs)) = refl
+  by_in_lem None = by_test PlainOutcome (is 0x3A next) (λ _. refl) (λ _. by_prefix_lem (longest (is_found f is_name) ps (length ps)))
 
   cut : PlainOutcome (cut_name f is_name start ps next end)
-  cut = by_test PlainOutcome (starts_with (codes "item") ps) (λ _. refl) (λ _. by_in_lem (cond f.till_in (before_in ps) none))
+  cut = by_test PlainOutcome (starts_with (codes "item") ps) (λ _. refl) (λ _. by_in_lem (cond f.till_in (before_in ps) None))
 
 -- Words and symbols.
 abbrev is_plain_row : Row → Bool

@@ -1,7 +1,7 @@
 -- What is opened is no longer than its bytes, and what a run leaves is the record of its items.
+use Rattle.std.specs.Prelude.{Option, None, Some}
 use mathlib.Core.Path.{◌≡◌, refl, sym, ap, ◌∙◌, subst}
 use mathlib.Core.Bool.{false}
-use mathlib.Core.Option.{Option, none, some}
 use mathlib.Core.List.{List, [], ◌∷◌}
 use Prim.Native.Nat.{ℕ, zero, suc, ◌+◌, ◌-◌, ◌*◌, ◌≤◌, ◌<◌}
 use native.Mathlib.Omega.{arith}
@@ -48,8 +48,8 @@ with_char_lem c (chars cs) = omega arith
 with_char_lem c (bad_at p) = omega arith
 
 one_more : (o : Option (ℕ × ℕ)) (p n : ℕ) (f : ℕ → Decoded) → ((k : ℕ) → count (f k) ≤ n) → count (maybe o (bad_at p) (λ s. with_char s.0 (f (s.1 - 1)))) ≤ suc n
-one_more none p n f h = omega arith
-one_more (some s) p n f h = omega (arith, with_char_lem s.0 (f (s.1 - 1)), h (s.1 - 1))
+one_more None p n f h = omega arith
+one_more (Some s) p n f h = omega (arith, with_char_lem s.0 (f (s.1 - 1)), h (s.1 - 1))
 
 few_chars : (skip p : ℕ) (bs : List ℕ) → count (decoded_from skip p bs) ≤ length bs
 unfolding decoded_from

@@ -1,7 +1,7 @@
 -- The cell at an index: there, past the end, behind some dropped, before some put behind.
+use Rattle.std.specs.Prelude.{None, Some}
 use mathlib.Core.Path.{◌≡◌, refl}
 use mathlib.Core.Bool.{Bool, true, false, false≢true}
-use mathlib.Core.Option.{none, some}
 use mathlib.Core.List.{List, [], ◌∷◌, ◌++◌}
 use Prim.Native.Nat.{ℕ, zero, suc, ◌+◌, ◌≤◌, ◌<◌}
 use native.Mathlib.Nat.{not-suc-le-zero, le_of_suc-le-suc, suc-add, zero-add}
@@ -10,13 +10,13 @@ use lib.ListN.{length, get_or, take, drop}
 use Rattle.reading.specs.Look.{cell_at}
 use Rattle.reading.specs.Cells.{holds}
 
-pub cell_in : (t : List ℕ) (i : ℕ) → i < length t → cell_at t i ≡ some (get_or t i 0)
+pub cell_in : (t : List ℕ) (i : ℕ) → i < length t → cell_at t i ≡ Some (get_or t i 0)
 unfolding cell_at
 cell_in [] i h = absurd (not-suc-le-zero h)
 cell_in (x ∷ t) zero h = refl
 cell_in (x ∷ t) (suc i) h = cell_in t i (le_of_suc-le-suc h)
 
-pub cell_out : (t : List ℕ) (i : ℕ) → length t ≤ i → cell_at t i ≡ none
+pub cell_out : (t : List ℕ) (i : ℕ) → length t ≤ i → cell_at t i ≡ None
 unfolding cell_at
 cell_out [] i h = refl
 cell_out (x ∷ t) zero h = absurd (not-suc-le-zero h)

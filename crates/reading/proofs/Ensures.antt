@@ -1,7 +1,7 @@
 -- A small logic of readings: each rule says what a look, a bind or a test adds to what is known of the parts.
+use Rattle.std.specs.Prelude.{Option, None, Some}
 use mathlib.Core.Path.{◌≡◌, refl, sym, ap, ◌∙◌, subst}
 use mathlib.Core.Bool.{Bool, true, false, cond}
-use mathlib.Core.Option.{Option, none, some}
 use mathlib.Core.List.{List}
 use Prim.Native.Nat.{ℕ, ◌-◌, ◌≤◌, ◌<◌}
 use native.Mathlib.Omega.{arith}
@@ -33,8 +33,8 @@ module _ {A : Type 0} {t : List ℕ} {far : ℕ} {P : A → Type 0} where
   }
 
   -- A look, by whether a cell is there.
-  pub asks_cell : {i : ℕ} {f f' : Option ℕ → Look A} → i < far → (length t ≤ i → Ensures t far P (f none) (f' none))
-      → ((c : ℕ) → cell_at t i ≡ some c → i < length t → Ensures t far P (f (some c)) (f' (some c))) → Ensures t far P (ask i f) (ask i f')
+  pub asks_cell : {i : ℕ} {f f' : Option ℕ → Look A} → i < far → (length t ≤ i → Ensures t far P (f None) (f' None))
+      → ((c : ℕ) → cell_at t i ≡ Some c → i < length t → Ensures t far P (f (Some c)) (f' (Some c))) → Ensures t far P (ask i f) (ask i f')
   asks_cell {i = i} {f} {f'} l x y = asks l (by_order i (length t)
       (λ h. let e = cell_in t i h in subst (λ c. Ensures t far P (f c) (f' c)) (sym e) (y _ e h))
       (λ h. subst (λ c. Ensures t far P (f c) (f' c)) (sym (cell_out t i h)) (x h)))
@@ -62,8 +62,8 @@ module _ {A : Type 0} {t : List ℕ} {far : ℕ} {P : A → Type 0} where
   weakens h g = record { holding = g _ h.holding; near = h.near; same = h.same }
 
   pub chooses : {B : Type 0} (o : Option B) {x x' : Look A} {f f' : B → Look A} → Ensures t far P x x' → ((b : B) → Ensures t far P (f b) (f' b)) → Ensures t far P (maybe o x f) (maybe o x' f')
-  chooses none x y = x
-  chooses (some b) x y = y b
+  chooses None x y = x
+  chooses (Some b) x y = y b
 
   pub chooses_cell : (i : ℕ) {x x' : Look A} {f f' : ℕ → Look A} → Ensures t far P x x' → ((c : ℕ) → i < length t → Ensures t far P (f c) (f' c))
       → Ensures t far P (maybe (cell_at t i) x f) (maybe (cell_at t i) x' f')

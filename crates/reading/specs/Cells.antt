@@ -1,16 +1,15 @@
 -- Tests on the cell that a look found.
-use Rattle.std.specs.Prelude.{Bool, false, ◌||◌, List, [], ◌∷◌, ℕ, eqb}
-use Rattle.std.proofs.Math.Option.{Option, none, some}
+use Rattle.std.specs.Prelude.{Bool, false, ◌||◌, List, [], ◌∷◌, ℕ, eqb, Option, None, Some}
 
 -- By whether there is a value.
 abbrev pub maybe : {A B : Type 0} → Option A → B → (A → B) → B
-maybe none x f = x
-maybe (some a) x f = f a
+maybe None x f = x
+maybe (Some a) x f = f a
 
 -- A cell is there and is of the class.
 abbrev pub holds : (ℕ → Bool) → Option ℕ → Bool
-holds p none = false
-holds p (some c) = p c
+holds p None = false
+holds p (Some c) = p c
 
 abbrev pub is : ℕ → Option ℕ → Bool
 is x c = holds (eqb x) c

@@ -1,11 +1,10 @@
 -- A reading of a text as a tree of looks: at each step it says which cell it asks for, and goes on by what stands there.
-use Rattle.std.proofs.Math.Option.{Option, none, some}
-use Rattle.std.specs.Prelude.{List, [], ◌∷◌, ℕ, zero, suc, ◌+◌, max}
+use Rattle.std.specs.Prelude.{List, [], ◌∷◌, ℕ, zero, suc, ◌+◌, max, Option, None, Some}
 
 -- The cell at an index, or none past the end: what the Rust's `char_at` answers.
 unfoldable pub cell_at : List ℕ → ℕ → Option ℕ
-cell_at [] i = none
-cell_at (x ∷ t) zero = some x
+cell_at [] i = None
+cell_at (x ∷ t) zero = Some x
 cell_at (x ∷ t) (suc i) = cell_at t i
 
 infixl 10 ◌>>=◌

@@ -1,7 +1,7 @@
 -- Items read afresh: an item of the part, written with its place in the whole text.
+use Rattle.std.specs.Prelude.{None}
 use mathlib.Core.Path.{◌≡◌, refl, sym, ap, ◌∙◌}
 use mathlib.Core.Bool.{Bool, true, false, cond}
-use mathlib.Core.Option.{none}
 use mathlib.Core.List.{List, [], ◌∷◌, ◌++◌, map, append-nil, append_assoc}
 use Prim.Native.Nat.{ℕ, suc, ◌+◌, ◌-◌, ◌≤◌, ◌<◌}
 use native.Mathlib.Omega.{arith}
@@ -112,7 +112,7 @@ module _ {tok : Reader} {e : Edit} {old : List (List ℕ)} {part : List ℕ} {ba
         left = λ _. record { row = j'; next = o; behind = w.behind; few = omega (arith, a, w.place, k.behind.count, k.few going); short = omega (arith, b, w.place, k.behind.cells, k.short) };
       }
 
-      pub seeking_more : {j' : ℕ} → Passed e old j' (base + at.position) → ((values : List ℕ) → old_rest e (map (item_of values) old) (base + at.position) (flags_of at.flags) ≡ none)
+      pub seeking_more : {j' : ℕ} → Passed e old j' (base + at.position) → ((values : List ℕ) → old_rest e (map (item_of values) old) (base + at.position) (flags_of at.flags) ≡ None)
           → {at'' : Progress} {rows'' : List (List ℕ)} {store'' : List ℕ} → Fresh tok part base at rows' store' at'' rows'' store'' → at.items < length rows' → at.cells + (length part - at.position) ≤ length store'
           → Seeking tok e old part base f n c rows store j' at'' rows'' store''
       seeking_more {j'} s miss {at''} r room space =

@@ -1,7 +1,7 @@
 -- The search for a match goes on where the last one stopped: positions rise in the old rows as they do in the fresh items, so one index into the old rows moves forward only.
+use Rattle.std.specs.Prelude.{None, Some}
 use mathlib.Core.Path.{◌≡◌, refl, sym, ap, ◌∙◌}
 use mathlib.Core.Bool.{Bool, true, false, ◌&&◌}
-use mathlib.Core.Option.{none, some}
 use mathlib.Core.List.{List, [], ◌∷◌, map}
 use Prim.Native.Nat.{ℕ, zero, suc, ◌+◌, ◌≤◌, ◌<◌}
 use native.Mathlib.Omega.{arith}
@@ -67,7 +67,7 @@ module _ (e : Edit) (store : List ℕ) (p : ℕ) (f : Flags) where
   passed_by r [] h = refl
   passed_by r (s ∷ rs) h = rw h
 
-  none_ahead : (rs : List (List ℕ)) → ((k : ℕ) → suc k < length rs → moved e (place_at rs k) ≡ p → ⊥) → old_rest e (map (item_of store) rs) p f ≡ none
+  none_ahead : (rs : List (List ℕ)) → ((k : ℕ) → suc k < length rs → moved e (place_at rs k) ≡ p → ⊥) → old_rest e (map (item_of store) rs) p f ≡ None
   unfolding old_rest
   none_ahead [] h = refl
   none_ahead (r ∷ []) h = refl
@@ -92,12 +92,12 @@ module _ {e : Edit} {rows : List (List ℕ)} where
     }
 
     -- The last row never matches.
-    pub match_end : length rows ≤ j + 1 → (store : List ℕ) (f : Flags) → old_rest e (map (item_of store) rows) p f ≡ none
+    pub match_end : length rows ≤ j + 1 → (store : List ℕ) (f : Flags) → old_rest e (map (item_of store) rows) p f ≡ None
     match_end h store f = s.same store p f (omega arith) ∙ none_ahead e store p f (drop j rows) (λ k l _. omega (arith, length-drop j rows))
 
     module _ (up : Rising rows) (h : j + 1 < length rows) (a : e.to ≤ place_at rows j) (store : List ℕ) (f : Flags) where
       -- A row at p or ahead of it that is no match: those behind it lie further ahead.
-      pub match_none : p ≤ moved e (place_at rows j) → (moved e (place_at rows j) ≡ p → same_flags (bit_flags (get_or (get_or rows j []) flags_at 0)) f ≡ false) → old_rest e (map (item_of store) rows) p f ≡ none
+      pub match_none : p ≤ moved e (place_at rows j) → (moved e (place_at rows j) ≡ p → same_flags (bit_flags (get_or (get_or rows j []) flags_at 0)) f ≡ false) → old_rest e (map (item_of store) rows) p f ≡ None
       match_none l g = s.same store p f (omega arith) ∙ rw (drop-cons rows j [] (omega arith))
           (passed_by e store p f (get_or rows j []) (drop (suc j) rows) miss ∙ none_ahead e store p f (drop (suc j) rows) ahead)
         where
@@ -115,16 +115,16 @@ module _ {e : Edit} {rows : List (List ℕ)} where
               omega (arith, up.rise j (suc j + k) (omega arith) (omega (arith, length-drop (suc j) rows)), y)
 
       pub match_here : moved e (place_at rows j) ≡ p → same_flags (bit_flags (get_or (get_or rows j []) flags_at 0)) f ≡ true
-          → old_rest e (map (item_of store) rows) p f ≡ some (map (moved_item e) (map (item_of store) (drop (j + 1) rows)))
+          → old_rest e (map (item_of store) rows) p f ≡ Some (map (moved_item e) (map (item_of store) (drop (j + 1) rows)))
       unfolding old_rest
       match_here q g = s.same store p f (omega arith) ∙ rw (add-one, drop-cons rows j [] (omega arith), drop-cons rows (suc j) [] (omega arith), le-leb e.to (place_at rows j) a, eq-eqb (moved e (place_at rows j)) p q, g)
 
 -- The fresh items, before each of which a match is looked for.
 module _ (e : Edit) (old : List Item) (i : Item) (is : List Item) (p : ℕ) (f : Flags) where
-  pub followed-fresh : old_rest e old p f ≡ none → followed e old (i ∷ is) p f ≡ i ∷ followed e old is i.position i.flags
+  pub followed-fresh : old_rest e old p f ≡ None → followed e old (i ∷ is) p f ≡ i ∷ followed e old is i.position i.flags
   unfolding followed
   followed-fresh h = rw h
 
-  pub followed_old : {js : List Item} → old_rest e old p f ≡ some js → followed e old (i ∷ is) p f ≡ js
+  pub followed_old : {js : List Item} → old_rest e old p f ≡ Some js → followed e old (i ∷ is) p f ≡ js
   unfolding followed
   followed_old h = rw h

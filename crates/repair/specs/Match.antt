@@ -1,6 +1,5 @@
 -- The search for an old item that matches a state, by one index into the old rows that moves forward only.
-use Rattle.std.specs.Prelude.{◌≡◌, Bool, true, false, List, [], map, ℕ, ◌+◌, ◌≤◌, ◌<◌, length, get_or, drop}
-use Rattle.std.proofs.Math.Option.{none, some}
+use Rattle.std.specs.Prelude.{◌≡◌, Bool, true, false, List, [], map, ℕ, ◌+◌, ◌≤◌, ◌<◌, length, get_or, drop, None, Some}
 use Rattle.text.specs.Limits.{max_chars}
 use Rattle.lexer.specs.Flags.{Flags}
 use Rattle.runs.specs.Edit.{Edit, moved}
@@ -39,9 +38,9 @@ pub record Matching (e : Edit) (rows : List (List ℕ)) (j p : ℕ) (f : Flags) 
   pub more : j + 1 < length rows
   pub behind : e.to ≤ place_at rows j
   pub place : moved e (place_at rows j) ≡ p
-  pub rest : (store : List ℕ) → old_rest e (map (item_of store) rows) p f ≡ some (moved_items e (drop (j + 1) rows) store)
+  pub rest : (store : List ℕ) → old_rest e (map (item_of store) rows) p f ≡ Some (moved_items e (drop (j + 1) rows) store)
 
 -- Whether it does; if not, no row does.
 pub record Looked (e : Edit) (rows : List (List ℕ)) (j p : ℕ) (f : Flags) (b : Bool) : Type 0 where
   pub found : b ≡ true → Matching e rows j p f
-  pub missed : b ≡ false → (store : List ℕ) → old_rest e (map (item_of store) rows) p f ≡ none
+  pub missed : b ≡ false → (store : List ℕ) → old_rest e (map (item_of store) rows) p f ≡ None

@@ -1,7 +1,7 @@
 -- Repaired items are the items of a run of the new text, for any sound reader: locality gives the kept ones, induction the fresh ones, translation the old rest.
+use Rattle.std.specs.Prelude.{Option, None, Some}
 use mathlib.Core.Path.{◌≡◌, refl, sym, ap, ◌∙◌}
 use mathlib.Core.Bool.{Bool, true, false, cond, beq}
-use mathlib.Core.Option.{Option, none, some}
 use mathlib.Core.List.{List, [], ◌∷◌, ◌++◌, map, append_assoc}
 use Prim.Native.Nat.{ℕ, ◌+◌, ◌-◌, ◌≤◌, ◌<◌}
 use native.Mathlib.Omega.{arith}
@@ -75,8 +75,8 @@ module _ (tok : Reader) (old new : List ℕ) (e : Edit)
 
   -- What is found behind a match is the rest of the new run.
   abbrev Rest : ℕ → Flags → Option (List Item) → Type 0
-  Rest p f none = Unit
-  Rest p f (some js) = Runs tok new p f js
+  Rest p f None = Unit
+  Rest p f (Some js) = Runs tok new p f js
 
   rest_at : {is : List Item} (i : Item) (p : ℕ) (f : Flags) → Runs tok old i.position i.flags is → is_match e i p f ≡ true → Runs tok new p f (map (moved_item e) is)
   rest_at i p f r m = let k = matched e i p f m in rw (k.1, k.2) at (run_moved tok old new e back r k.0)
@@ -88,8 +88,8 @@ module _ (tok : Reader) (old new : List ℕ) (e : Edit)
 
   module _ (olds : List Item) (rest : (p : ℕ) (f : Flags) → Rest p f (old_rest e olds p f)) where
     rest_or : (p : ℕ) (f : Flags) (o : Option (List Item)) {is : List Item} → Rest p f o → Runs tok new p f is → Runs tok new p f (maybe o is (λ js. js))
-    rest_or p f none g r = r
-    rest_or p f (some js) g r = g
+    rest_or p f None g r = r
+    rest_or p f (Some js) g r = g
 
     run-followed : {p : ℕ} {f : Flags} {is : List Item} → Runs tok new p f is → Runs tok new p f (followed e olds is p f)
     unfolding followed

@@ -1,8 +1,8 @@
 -- The second half of demand 3: the items of a repaired record are kept ones, fresh ones to the first match or the run's end, and the old ones behind the match, moved.
 -- What the search for an old rest finds or leaves out carries it; the rest is one induction over the fresh items and one over the kept ones.
+use Rattle.std.specs.Prelude.{Option, None, Some}
 use mathlib.Core.Path.{◌≡◌, refl, sym, ap, ◌∙◌, subst}
 use mathlib.Core.Bool.{Bool, true, false, cond, ◌&&◌, ◌||◌, not, beq, true≢false, false≢true}
-use mathlib.Core.Option.{Option, none, some}
 use mathlib.Core.List.{List, [], ◌∷◌, ◌++◌, map, append-nil}
 use Prim.Native.Nat.{ℕ, zero, suc, ◌+◌, ◌≤◌, ◌<◌, suc-le-suc}
 use native.Mathlib.Omega.{arith}
@@ -57,8 +57,8 @@ record Found (e : Edit) (old : List Item) (p : ℕ) (f : Flags) (js : List Item)
 
 -- The search finds the first such item, or there is none.
 abbrev Searched : Edit → List Item → ℕ → Flags → Option (List Item) → Type 0
-Searched e old p f none = (k : ℕ) → Hit e old p f k → ⊥
-Searched e old p f (some js) = Found e old p f js
+Searched e old p f None = (k : ℕ) → Hit e old p f k → ⊥
+Searched e old p f (Some js) = Found e old p f js
 
 module _ (e : Edit) (p : ℕ) (f : Flags) (i : Item) where
   hit_first : (old : List Item) → is_match e i p f ≡ false → Hit e (i ∷ old) p f 0 → ⊥
@@ -84,12 +84,12 @@ module _ (e : Edit) (p : ℕ) (f : Flags) (i : Item) where
       }
 
   found_later : (old : List Item) (o : Option (List Item)) → is_match e i p f ≡ false → Searched e old p f o → Searched e (i ∷ old) p f o
-  found_later old none g s = go
+  found_later old None g s = go
     where
       go : (k : ℕ) → Hit e (i ∷ old) p f k → ⊥
       go zero h = hit_first old g h
       go (suc k) h = s k (hit_down h)
-  found_later old (some js) g s = record { place = suc s.place; hit = hit_up s.hit; first = go; rest = s.rest }
+  found_later old (Some js) g s = record { place = suc s.place; hit = hit_up s.hit; first = go; rest = s.rest }
     where
       go : (k : ℕ) → Hit e (i ∷ old) p f k → suc s.place ≤ k
       go zero h = absurd (hit_first old g h)
@@ -126,17 +126,17 @@ module _ (e : Edit) (old : List Item) where
     match_up m = record { was = m.was; is = m.is; old_at = m.old_at; read_at = inner_up m.read_at; behind = m.behind; position = m.position; flags = m.flags }
 
     follows_more : {is : List Item} (o : Option (List Item)) → Searched e old last.position last.flags o → Follows i fresh is → Follows last (i ∷ fresh) (maybe o (i ∷ is) (λ js. js))
-    follows_more none s (to_end n q) = to_end go (ap (λ is. i ∷ is) q)
+    follows_more None s (to_end n q) = to_end go (ap (λ is. i ∷ is) q)
       where
         go : (j c : ℕ) → Match e old (last ∷ i ∷ fresh) j c → ⊥
         go j zero m = s j (here_hit m)
         go j (suc c) m = n j c (match_down m)
-    follows_more none s (to_match j c m a b q) = to_match j (suc c) (match_up m) go (λ k x. b k (match_down x)) (ap (λ is. i ∷ is) q)
+    follows_more None s (to_match j c m a b q) = to_match j (suc c) (match_up m) go (λ k x. b k (match_down x)) (ap (λ is. i ∷ is) q)
       where
         go : (k d : ℕ) → Match e old (last ∷ i ∷ fresh) k d → suc c ≤ d
         go k zero x = absurd (s k (here_hit x))
         go k (suc d) x = suc-le-suc (a k d (match_down x))
-    follows_more (some js) s g = to_match s.place 0 (hit_here s.hit) (λ k d _. omega arith) (λ k x. s.first k (here_hit x)) s.rest
+    follows_more (Some js) s g = to_match s.place 0 (hit_here s.hit) (λ k d _. omega arith) (λ k x. s.first k (here_hit x)) s.rest
 
   follows : (last : Item) (fresh : List Item) → Follows last fresh (followed e old fresh last.position last.flags)
   unfolding followed

@@ -1,7 +1,6 @@
 -- Repair of a run's items after one edit: kept ones, ones read afresh, and old ones moved.
-use Rattle.std.specs.Prelude.{Bool, cond, ◌&&◌, List, [], ◌∷◌, map, ℕ, ◌+◌, leb, eqb, length}
+use Rattle.std.specs.Prelude.{Bool, cond, ◌&&◌, List, [], ◌∷◌, map, ℕ, ◌+◌, leb, eqb, length, Option, None, Some}
 use Rattle.std.specs.Bool.{beq}
-use Rattle.std.proofs.Math.Option.{Option, none, some}
 use Rattle.reading.specs.Cells.{maybe}
 use Rattle.lexer.specs.Flags.{Flags}
 use Rattle.runs.specs.Item.{Item}
@@ -19,9 +18,9 @@ is_match e old p f = leb e.to old.position && eqb (moved e old.position) p && sa
 
 -- The old items behind the one that matches the state, moved; that one is not its record's last.
 unfoldable pub old_rest : Edit → List Item → ℕ → Flags → Option (List Item)
-old_rest e [] p f = none
-old_rest e (i ∷ []) p f = none
-old_rest e (i ∷ j ∷ is) p f = cond (is_match e i p f) (some (map (moved_item e) (j ∷ is))) (old_rest e (j ∷ is) p f)
+old_rest e [] p f = None
+old_rest e (i ∷ []) p f = None
+old_rest e (i ∷ j ∷ is) p f = cond (is_match e i p f) (Some (map (moved_item e) (j ∷ is))) (old_rest e (j ∷ is) p f)
 
 -- Fresh items to the first match, tried before each of them on the state that it starts from, and the old rest behind it; or to the run's end.
 unfoldable pub followed : Edit → List Item → List Item → ℕ → Flags → List Item

@@ -1,7 +1,7 @@
 -- Well-formed sequences byte by byte: for each first byte the table leaves one row or none, by computation over the 256 bytes.
+use Rattle.std.specs.Prelude.{Option, None, Some}
 use mathlib.Core.Path.{◌≡◌, refl, sym, ap, ◌∙◌}
 use mathlib.Core.Bool.{Bool, true, false, cond, ◌&&◌, ◌||◌, not, false≢true}
-use mathlib.Core.Option.{Option, none, some}
 use mathlib.Core.List.{List, [], ◌∷◌}
 use Prim.Native.Nat.{ℕ, zero, suc, ◌+◌, ◌-◌, ◌*◌, ◌%◌, ◌^◌, ◌≤◌, ◌<◌}
 use native.Mathlib.Nat.{mod-eq_of_lt, not-suc-le-zero}
@@ -85,7 +85,7 @@ unfolding leading_ones
 no_ones b h = eqb-true (leading_ones b) 0 (below (λ b. eqb (leading_ones b) 0) 0x80 refl b h)
 
 -- A first byte below 80 is a character by itself.
-pub sequence_ascii : (b : ℕ) (bs : List ℕ) → b < 0x80 → sequence (b ∷ bs) ≡ some (b, 1)
+pub sequence_ascii : (b : ℕ) (bs : List ℕ) → b < 0x80 → sequence (b ∷ bs) ≡ Some (b, 1)
 unfolding sequence fits_some fits_row append_bits
 sequence_ascii b bs h =
     let o = no_ones b h in
@@ -106,14 +106,14 @@ one_more b = go (leading_ones b)
     go (suc n) = rw (ne_eqb (suc n) 0 (λ e. let z : suc n ≡ 0 = e in omega arith)) (omega arith)
 
 module _ (b : ℕ) (bs : List ℕ) (byte : b < 256) where
-  sequence_bad : 0x80 ≤ b → is_lead b ≡ false → sequence (b ∷ bs) ≡ none
+  sequence_bad : 0x80 ≤ b → is_lead b ≡ false → sequence (b ∷ bs) ≡ None
   unfolding sequence
   sequence_bad l e = rw (one_more b, fits_none b (take (sequence_length b - 1) bs) byte l e)
 
-  pub sequence_below : 0x80 ≤ b → b < 0xC2 → sequence (b ∷ bs) ≡ none
+  pub sequence_below : 0x80 ≤ b → b < 0xC2 → sequence (b ∷ bs) ≡ None
   sequence_below l g = sequence_bad l (rw (lt-leb 0xC2 b g))
 
-  pub sequence_above : 0xF4 < b → sequence (b ∷ bs) ≡ none
+  pub sequence_above : 0xF4 < b → sequence (b ∷ bs) ≡ None
   sequence_above g = sequence_bad (omega arith) (rw (le-leb 0xC2 b (omega arith), lt-leb b 0xF4 g))
 
   -- A first byte of C2 to F4 asks for the bytes behind it.
@@ -129,7 +129,7 @@ module _ (b : ℕ) (bs : List ℕ) (byte : b < 256) where
         or_false false = refl
 
     pub sequence_lead : (k : ℕ) → leading_ones b ≡ suc k
-        → sequence (b ∷ bs) ≡ cond (fits_row (behind b (suc k)) (take k bs)) (some (append_bits (b % 2 ^ (7 - suc k)) (take k bs), suc k)) none
+        → sequence (b ∷ bs) ≡ cond (fits_row (behind b (suc k)) (take k bs)) (Some (append_bits (b % 2 ^ (7 - suc k)) (take k bs), suc k)) None
     unfolding sequence
     sequence_lead k e = let one : suc k - 1 ≡ k = omega arith in rw (e, ne_eqb (suc k) 0 (λ z. let y : suc k ≡ 0 = z in omega arith), fits_lead (take k bs), e, one)
 
@@ -161,7 +161,7 @@ module _ (t : List ℕ) (i : ℕ) (here : i < length t) (byte : get_or t i 0 < 2
   cells j h = let e : suc (i + j) ≡ i + suc j = omega arith in drop-cons t (i + j) 0 h ∙ rw e
 
   module _ (k : ℕ) (count : leading_ones first ≡ suc k) where
-    opened : sequence (drop i t) ≡ cond (fits_row (behind first (suc k)) (take k (drop (i + 1) t))) (some (append_bits (first % 2 ^ (7 - suc k)) (take k (drop (i + 1) t)), suc k)) none
+    opened : sequence (drop i t) ≡ cond (fits_row (behind first (suc k)) (take k (drop (i + 1) t))) (Some (append_bits (first % 2 ^ (7 - suc k)) (take k (drop (i + 1) t)), suc k)) None
     opened = let s : suc i ≡ i + 1 = omega arith in rw (drop-cons t i 0 here, s) (sequence_lead first (drop (i + 1) t) byte low high k count)
 
     long_short : length t - i < suc k → Bad ≡ sequence_of (sequence (drop i t))
@@ -270,27 +270,27 @@ module _ (t : List ℕ) (i : ℕ) (here : i < length t) where
     at_above h = rw (drop-cons t i 0 here, sequence_above byte_at (drop (suc i) t) byte h)
 
 -- What a sequence that was read says of the definition.
-pub some_of : (c k : ℕ) (o : Option (ℕ × ℕ)) → Char c k ≡ sequence_of o → o ≡ some (c, k)
-some_of c k none e = let z : ◌≡◌ {A = ℕ} 0 1 = cc in absurd (zero_one z)
+pub some_of : (c k : ℕ) (o : Option (ℕ × ℕ)) → Char c k ≡ sequence_of o → o ≡ Some (c, k)
+some_of c k None e = let z : ◌≡◌ {A = ℕ} 0 1 = cc in absurd (zero_one z)
   where
     zero_one : ◌≡◌ {A = ℕ} 0 1 → ⊥
     zero_one z = omega arith
-some_of c k (some s) e =
+some_of c k (Some s) e =
     let a : c ≡ s.0 = cc in
     let b : k ≡ s.1 = cc in
     rw (a, b)
 
-pub none_of : (o : Option (ℕ × ℕ)) → Bad ≡ sequence_of o → o ≡ none
-none_of none e = refl
-none_of (some s) e = cc
+pub none_of : (o : Option (ℕ × ℕ)) → Bad ≡ sequence_of o → o ≡ None
+none_of None e = refl
+none_of (Some s) e = cc
 
 -- A sequence that was read lies in the bytes.
 module _ (t : List ℕ) (i : ℕ) (here : i < length t) (byte : get_or t i 0 < 256) (c k : ℕ) (e : Char c k ≡ sequence_of (sequence (drop i t))) where
   never : Bad ≡ sequence_of (sequence (drop i t)) → ⊥
   never b = let z : ◌≡◌ {A = ℕ} 0 1 = cc in omega arith
 
-  lead_length : (m : ℕ) (x : Bool) (v : ℕ) → sequence (drop i t) ≡ cond x (some (v, m)) none → k ≡ m
-  lead_length m true v q = let s : ◌≡◌ {A = Option (ℕ × ℕ)} (some (c, k)) (some (v, m)) = sym (some_of c k (sequence (drop i t)) e) ∙ q in cc
+  lead_length : (m : ℕ) (x : Bool) (v : ℕ) → sequence (drop i t) ≡ cond x (Some (v, m)) None → k ≡ m
+  lead_length m true v q = let s : ◌≡◌ {A = Option (ℕ × ℕ)} (Some (c, k)) (Some (v, m)) = sym (some_of c k (sequence (drop i t)) e) ∙ q in cc
   lead_length m false v q = absurd (never (ap sequence_of (sym q)))
 
   long_length : 0xC2 ≤ get_or t i 0 → get_or t i 0 ≤ 0xF4 → (m : ℕ) → leading_ones (get_or t i 0) ≡ suc m → k ≡ suc m

@@ -1,6 +1,6 @@
 -- The loops over sequences: the characters so far, with what the rest gives, are what all bytes give.
+use Rattle.std.specs.Prelude.{None, Some}
 use mathlib.Core.Path.{◌≡◌, refl, ap, ◌∙◌, subst}
-use mathlib.Core.Option.{none, some}
 use mathlib.Core.List.{List, [], ◌∷◌, ◌++◌}
 use Prim.Native.Nat.{ℕ, zero, suc, ◌+◌, ◌-◌, ◌≤◌, ◌<◌}
 use native.Mathlib.Omega.{arith}
@@ -24,14 +24,14 @@ skipped (suc m) p (b ∷ bs) = let e : suc p + m ≡ p + suc m = omega arith in 
 
 -- One more character, or the end of the reading.
 module _ (t : List ℕ) (i : ℕ) (here : i < length t) where
-  decoded_char : (c k : ℕ) → 1 ≤ k → sequence (drop i t) ≡ some (c, k) → decoded_from 0 i (drop i t) ≡ with_char c (decoded_from 0 (i + k) (drop (i + k) t))
+  decoded_char : (c k : ℕ) → 1 ≤ k → sequence (drop i t) ≡ Some (c, k) → decoded_from 0 i (drop i t) ≡ with_char c (decoded_from 0 (i + k) (drop (i + k) t))
   unfolding decoded_from
   decoded_char c k l e =
       let p : suc i + (k - 1) ≡ i + k = omega arith in
       let s : decoded_from (k - 1) (suc i) (drop (suc i) t) ≡ decoded_from 0 (i + k) (drop (i + k) t) = skipped (k - 1) (suc i) (drop (suc i) t) ∙ rw (drop-drop, p) in
       rw (drop-cons t i 0 here) (rw (rw (drop-cons t i 0 here) at e) (ap (with_char c) s))
 
-  decoded_bad : sequence (drop i t) ≡ none → decoded_from 0 i (drop i t) ≡ bad_at i
+  decoded_bad : sequence (drop i t) ≡ None → decoded_from 0 i (drop i t) ≡ bad_at i
   unfolding decoded_from
   decoded_bad e = rw (drop-cons t i 0 here) (rw (rw (drop-cons t i 0 here) at e) refl)
 

@@ -1,6 +1,5 @@
 -- What the code of opening answers, in the terms of the definitions.
-use Rattle.std.specs.Prelude.{cond, List, ℕ, ◌≤◌, eqb, length}
-use Rattle.std.proofs.Math.Option.{Option, none, some}
+use Rattle.std.specs.Prelude.{cond, List, ℕ, ◌≤◌, eqb, length, Option, None, Some}
 use Rattle.reading.specs.Slices.{front}
 use Rattle.text.specs.Utf8.{Decoded, chars, bad_at, Opened, opened, refused}
 use Rattle.text.specs.declared.utf8.Opening.{Opening}
@@ -12,8 +11,8 @@ use Rattle.text.specs.declared.utf8.Count.TheVariants.{Chars, BadAt}
 
 -- A sequence read, or none.
 abbrev pub sequence_of : Option (ℕ × ℕ) → Sequence
-sequence_of none = Bad
-sequence_of (some s) = Char s.0 s.1
+sequence_of None = Bad
+sequence_of (Some s) = Char s.0 s.1
 
 -- The bounds of the second byte behind a first byte of C2 to F4.
 abbrev pub second_low : ℕ → ℕ

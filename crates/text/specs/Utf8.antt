@@ -1,6 +1,5 @@
 -- Opening bytes: well-formed UTF-8 as the Unicode Standard's table 3-7 has it, decoded to one cell a character.
-use Rattle.std.specs.Prelude.{Bool, true, false, cond, ◌&&◌, ◌||◌, List, [], ◌∷◌, ℕ, zero, suc, ◌+◌, ◌-◌, ◌*◌, ◌%◌, ◌^◌, leb, ltb, eqb, length, take}
-use Rattle.std.proofs.Math.Option.{Option, none, some}
+use Rattle.std.specs.Prelude.{Bool, true, false, cond, ◌&&◌, ◌||◌, List, [], ◌∷◌, ℕ, zero, suc, ◌+◌, ◌-◌, ◌*◌, ◌%◌, ◌^◌, leb, ltb, eqb, length, take, Option, None, Some}
 use Rattle.reading.specs.Cells.{maybe}
 use Rattle.reading.specs.Slices.{front}
 use Rattle.text.specs.Limits.{max_chars, max_bytes}
@@ -60,8 +59,8 @@ decode b bs = append_bits (b % 2 ^ (7 - leading_ones b)) bs
 
 -- The character that the bytes begin with, and the length of its sequence.
 unfoldable pub sequence : List ℕ → Option (ℕ × ℕ)
-sequence [] = none
-sequence (b ∷ bs) = cond (is_well_formed (take (sequence_length b) (b ∷ bs))) (some (decode b (take (sequence_length b - 1) bs), sequence_length b)) none
+sequence [] = None
+sequence (b ∷ bs) = cond (is_well_formed (take (sequence_length b) (b ∷ bs))) (Some (decode b (take (sequence_length b - 1) bs), sequence_length b)) None
 
 pub data Decoded : Type 0 where
   chars : List ℕ → Decoded

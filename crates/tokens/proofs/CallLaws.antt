@@ -1,7 +1,7 @@
 -- The token call: the host's refusals in their order, a start token, or the token reader from the position on.
+use Rattle.std.specs.Prelude.{Option, None, Some}
 use mathlib.Core.Path.{◌≡◌, refl, sym, ap, ◌∙◌, subst}
 use mathlib.Core.Bool.{Bool, true, false, cond, ◌||◌}
-use mathlib.Core.Option.{Option, none, some}
 use mathlib.Core.List.{List, append-nil}
 use Prim.Native.Nat.{ℕ, ◌+◌, ◌-◌, ◌*◌, ◌≤◌, ◌<◌}
 use native.Mathlib.Omega.{arith}
@@ -146,9 +146,9 @@ module _ (lent : Lent) (s : State) (t output scratch : List ℕ) where
 step_typed : (lent : Lent) (s : State) (t : List ℕ) → length t ≤ max_chars → Typed (step (scope_of lent) s t).read
 step_typed lent s t limit = go s.pending
   where
-    go : (k : Option ℕ) → Typed (maybe k (spec.advanced s.position (run (drop s.position t) (read_token (is_name (scope_of lent)) s.flags)).answer) (λ k. record { read = spec.start_read k; next = spec.state s.position s.flags none })).read
-    go (some k) = tt
-    go none = formed_typed (run (drop s.position t) (read_token (is_name (scope_of lent)) s.flags)).answer.read (sound (is_name (scope_of lent)) s.flags (drop s.position t) (rw length-drop (omega arith))).formed
+    go : (k : Option ℕ) → Typed (maybe k (spec.advanced s.position (run (drop s.position t) (read_token (is_name (scope_of lent)) s.flags)).answer) (λ k. record { read = spec.start_read k; next = spec.state s.position s.flags None })).read
+    go (Some k) = tt
+    go None = formed_typed (run (drop s.position t) (read_token (is_name (scope_of lent)) s.flags)).answer.read (sound (is_name (scope_of lent)) s.flags (drop s.position t) (rw length-drop (omega arith))).formed
 
 module _ (lent : Lent) (l : Lexer) (t o scratch : List ℕ) {scratch' : List ℕ} (clean : scratch' ≡ zeros (length scratch)) {n : ℕ} (p : n ≡ refusal_of lent l.position (length t) (length o) (length scratch)) where
   pub call_refused : 0 < n → CalledBy (next_token lent (state_of l) t o scratch) (record { read = Refused n 0; place = l.position; next = l }) o scratch'
