@@ -7,7 +7,7 @@ mod answers; // answers.rt: answers printed
 mod lent; // lent.rt: lists and scopes that no case gives
 
 use cases::{calls, fields, lines};
-use scope::broken;
+use scope::lent::Lent;
 use scope::scope::{Scope, Slot};
 use search::keys;
 use std::io;
@@ -19,10 +19,15 @@ fn has(
     names: &[[u32; Scope::MAX_NAME]],
     text: &[u32],
 ) -> bool {
-    if broken::is_broken(s, slots, names) {
-        return false;
+    let lent = Lent {
+        counts: s,
+        slots,
+        names,
+    };
+    match lent.checked() {
+        Some(scope) => keys::is_name(scope, text),
+        None => false,
     }
-    keys::is_name(s, slots, names, text)
 }
 
 // A question: the text stands behind the mark and a space, and its words behind the text.

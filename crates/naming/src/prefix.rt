@@ -11,6 +11,7 @@ ghost use Rattle.lexer.specs.FlagsOf.{flags_of};
 ghost use Rattle.lexer.specs.Fit.{Clear, Asked, Longest, Searchable};
 
 use lexer::flags::Flags;
+use scope::lent::Sound;
 use scope::scope::{Scope, Slot};
 
 // Sets the first n cells to 0.
@@ -44,7 +45,14 @@ fn find(
     ensures { Asked (flags_of flags) (is_name (scope_of (lent s slots.now names.now))) text.now result.found result.property }
 {
     if !flags.after_dot {
-        let found = search::keys::is_name(s, slots, names, text);
+        let found = search::keys::is_name(
+            Sound {
+                counts: s,
+                slots,
+                names,
+            },
+            text,
+        );
         return Finding {
             found,
             property: false,
@@ -56,7 +64,14 @@ fn find(
             property: true,
         };
     }
-    let found = search::keys::is_name(s, slots, names, text);
+    let found = search::keys::is_name(
+        Sound {
+            counts: s,
+            slots,
+            names,
+        },
+        text,
+    );
     Finding {
         found,
         property: false,

@@ -23,6 +23,7 @@ use runs::edit::Edit;
 use runs::item::Item;
 use runs::run::Progress;
 use runs::{call, cell, edit, item, run};
+use scope::lent::Sound;
 use scope::scope::{Scope, Slot};
 use text::refusal::Refusal;
 
@@ -125,7 +126,11 @@ fn read_to_match(
     ensures { ToMatch (read_token (is_name (scope_of (lent s slots.now names.now)))) (edit_of e) old_rows.now part.now base (flags_of flags) kept.items kept.cells rows.old store.old result rows.new store.new
         × (scratch.new ≡ scratch.old) }
 {
-    let cap = search::longest::longest_key(s, slots, names);
+    let cap = search::longest::longest_key(Sound {
+        counts: s,
+        slots,
+        names,
+    });
     let mut at = Progress {
         position: 0,
         flags,

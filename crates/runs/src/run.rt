@@ -16,6 +16,7 @@ use crate::item::Item;
 use crate::{call, item};
 use lexer::flags::Flags;
 use lexer::token::Read;
+use scope::lent::Sound;
 use scope::scope::{Scope, Slot};
 use text::refusal::Refusal;
 
@@ -110,7 +111,11 @@ fn read_items(
     ensures { Stands (read_token (is_name (scope_of (lent s slots.now names.now)))) start_type (flags_of flags) text.now rows.old store.old result rows.new store.new
         × (result.ended ≡ true) × (scratch.new ≡ scratch.old) }
 {
-    let cap = search::longest::longest_key(s, slots, names);
+    let cap = search::longest::longest_key(Sound {
+        counts: s,
+        slots,
+        names,
+    });
     let mut at = put_start(start_type, flags, rows);
     while !at.ended {
         at = read_item(text, at, s, slots, names, cap, rows, store, scratch);

@@ -10,3 +10,4 @@ pub mod Mark
 pub mod Rows
 pub mod Answers
 pub mod Listing
+pub mod Sound

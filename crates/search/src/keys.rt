@@ -4,11 +4,12 @@ ghost use Rattle.reading.specs.Codes.{codes};
 ghost use Rattle.names.specs.Same.{same, member};
 ghost use Rattle.scope.specs.Limits.{max_name, max_depth};
 ghost use Rattle.scope.specs.Keys as spec;
-ghost use Rattle.scope.specs.Lent.{held, any_too_long, is_broken, scope_of};
+ghost use Rattle.scope.specs.Lent.{held, any_too_long};
+ghost use Rattle.scope.specs.Sound.{sound_scope};
 ghost use Rattle.scope.specs.Rows.{entry_at};
 ghost use Rattle.search.specs.Rests.{past};
-ghost use Rattle.scope.specs.Answers.{lent};
 
+use scope::lent::Sound;
 use scope::scope::{Kind, Scope, Slot};
 use scope::{broken, compare};
 use text::chars::Char;
@@ -130,20 +131,19 @@ fn entry_has(
 
 // Whether the text is a parsed name or a flattened key of a scope that is not broken.
 // Ruled out, among others: a nested key without its " . "; a key that skips no level.
-pub fn is_name(
-    s: Scope,
-    slots: &[[u32; Slot::NUMBERS]],
-    names: &[[u32; Scope::MAX_NAME]],
-    text: &[u32],
-) -> bool
-    requires { is_broken (lent s slots.now names.now) ≡ false }
-    ensures { result ≡ spec.is_name (scope_of (lent s slots.now names.now)) text.now }
+pub fn is_name(scope: Sound, text: &[u32]) -> bool
+    ensures { result ≡ spec.is_name (sound_scope scope.entry) text.now }
 {
     if Scope::LONGEST_KEY < text.len() {
         return false;
     }
-    if broken::is_parsed(slots, names, s.parsed, 0, text, text.len()) {
+    let Sound {
+        counts,
+        slots,
+        names,
+    } = scope;
+    if broken::is_parsed(slots, names, counts.parsed, 0, text, text.len()) {
         return true;
     }
-    has(slots, names, s.entries, 0, 0, Scope::LEVELS, text)
+    has(slots, names, counts.entries, 0, 0, Scope::LEVELS, text)
 }

@@ -4,10 +4,11 @@ ghost use Rattle.scope.specs.Limits.{max_entries, max_parsed, max_name, max_dept
 ghost use Rattle.scope.specs.Keys.{is_name, longest_key};
 ghost use Rattle.scope.specs.Capped.{Capped};
 ghost use Rattle.search.specs.Longest as spec;
-ghost use Rattle.scope.specs.Lent.{any_too_long, is_broken, scope_of};
-ghost use Rattle.scope.specs.Answers.{lent};
+ghost use Rattle.scope.specs.Lent.{any_too_long};
+ghost use Rattle.scope.specs.Sound.{sound_scope};
 
 use scope::compare;
+use scope::lent::Sound;
 use scope::scope::{Scope, Slot};
 
 fn larger(a: usize, b: usize) -> usize
@@ -105,15 +106,10 @@ fn longest_parsed(slots: &[[u32; Slot::NUMBERS]], parsed: usize) -> usize
 // A length that no parsed name and no flattened key of a scope that is not broken exceeds.
 // It is the longest parsed name, or the longest names of all depths one behind the other: 0 without names, 1 where all are single characters at depth 0.
 // Ruled out, among others: the " . " between two names not counted; a parsed name longer than every key left out.
-pub fn longest_key(
-    s: Scope,
-    slots: &[[u32; Slot::NUMBERS]],
-    names: &[[u32; Scope::MAX_NAME]],
-) -> usize
-    requires { is_broken (lent s slots.now names.now) ≡ false }
-    ensures { Capped (is_name (scope_of (lent s slots.now names.now))) result }
+pub fn longest_key(scope: Sound) -> usize
+    ensures { Capped (is_name (sound_scope scope.entry)) result }
 {
-    let keys = total(slots, s.entries);
-    let parsed = longest_parsed(slots, s.parsed);
+    let keys = total(scope.slots, scope.counts.entries);
+    let parsed = longest_parsed(scope.slots, scope.counts.parsed);
     larger(keys, parsed + 3) - 3
 }

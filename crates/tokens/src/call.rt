@@ -13,6 +13,7 @@ ghost use Rattle.tokens.specs.CalledBy.{state_of, refusal_of, Stepped, CalledBy}
 use lexer::flags::Flags;
 use lexer::token::Read;
 use lexer::token_type::TokenType;
+use scope::lent::Sound;
 use scope::scope::{Scope, Slot};
 use text::refusal::Refusal;
 use text::utf8::Text;
@@ -220,7 +221,11 @@ fn step(
             },
         };
     }
-    let cap = search::longest::longest_key(s, slots, names);
+    let cap = search::longest::longest_key(Sound {
+        counts: s,
+        slots,
+        names,
+    });
     let o = crate::token::read_token(&text[p..], f, s, slots, names, cap, out, scratch);
     let read = o.read;
     let used = o.used;
