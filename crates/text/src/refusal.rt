@@ -2,8 +2,32 @@
 ghost use Rattle.std.specs.Prelude.{◌≡◌};
 ghost use Rattle.text.specs.Refusals as spec;
 
-#[derive(Clone, Copy)]
-pub struct Refusal {}
+// Why a call does nothing. The first eight are caused by the author's text, the others by the host.
+#[derive(Clone, Copy, Debug, PartialEq, Eq)]
+pub enum Refusal {
+    TooLong = 1,
+    NotUtf8,
+    NoHexDigit,
+    EndAtHexDigit,
+    NoScalarValue,
+    NoSecondHalf,
+    EndAtSecondHalf,
+    StartsWithIn,
+    ShortSlice,
+    BrokenScope,
+    OverLimit,
+    BeyondText,
+    BrokenRequest,
+}
+
+// Ruled out, among others: a refusal that is another number than 01's.
+impl From<Refusal> for u32 {
+    ghost from_gives = { λ r n. n ≡ spec.number_of r };
+
+    fn from(r: Refusal) -> u32 {
+        r as u32
+    }
+}
 
 impl Refusal {
     // Nothing is refused.
