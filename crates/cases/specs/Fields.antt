@@ -1,7 +1,8 @@
 -- The fields of a line, parted by single spaces: decimal numbers, and texts as code points in hexadecimal.
 use Rattle.std.specs.Prelude.{Bool, cond, List, [], ◌∷◌, ◌++◌, ℕ, zero, suc, ◌+◌, ◌*◌, ◌%◌, eqb, ltb, length, drop, replicate}
+use Rattle.std.specs.Option.{unwrap_or}
 use Rattle.reading.specs.Look.{cell_at}
-use Rattle.reading.specs.Cells.{maybe, is}
+use Rattle.reading.specs.Cells.{is}
 use Rattle.reading.specs.Span.{span}
 use Rattle.text.specs.Hex.{hex_value}
 
@@ -16,7 +17,7 @@ next_field line i = i + to_next (drop i line)
 
 -- The value of a digit; 16 for any other byte.
 abbrev pub digit_value : ℕ → ℕ
-digit_value c = maybe (hex_value c) 16 (λ d. d)
+digit_value c = unwrap_or (hex_value c) 16
 
 abbrev pub is_digit : ℕ → ℕ → Bool
 is_digit base c = ltb (digit_value c) base

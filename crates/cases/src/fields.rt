@@ -58,7 +58,7 @@ fn read_number(line: &[u8], base: u32, from: usize) -> Number
     let mut n: u32 = 0;
     let mut i = from;
     while i < line.len() {
-        let d = text::hex::hex_to_decimal(wide(line[i]));
+        let d = text::hex::hex_to_decimal(wide(line[i])).unwrap_or(16);
         if base <= d {
             return Number { value: n, next: i };
         }

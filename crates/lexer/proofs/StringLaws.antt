@@ -1,25 +1,23 @@
 -- Each way through a string's inside, followed look by look with its reach, which a character may leave open by one.
-use Rattle.std.specs.Prelude.{Option, None, Some}
+use Rattle.std.specs.Prelude.{None, Some}
 use mathlib.Core.Path.{◌≡◌, refl, sym, ◌∙◌, ap, subst}
 use mathlib.Core.Bool.{false≢true, Bool, true, false, ◌||◌, not}
 use mathlib.Core.List.{List, [], ◌∷◌, ◌++◌}
 use Prim.Native.Nat.{ℕ, zero, suc, ◌+◌, ◌-◌, ◌*◌, ◌≤◌, ◌<◌, max}
 use native.Mathlib.Omega.{arith}
 use lib.ListN.{length, get_or, set, length-append, length-set}
-use lib.Dec.{eqb, leb}
-use borrow.Author.Tests.{leb-true, lt-ltb, le-ltb, le-leb, lt-leb, eq-eqb, ne_eqb}
+use lib.Dec.{eqb}
+use borrow.Author.Tests.{lt-ltb, le-ltb, le-leb, lt-leb, eq-eqb, ne_eqb}
 use Rattle.reading.specs.Look.{Look, done, cell_at}
-use Rattle.reading.specs.Cells.{maybe}
 use Rattle.reading.specs.Goes.{got, Goes}
 use Rattle.reading.specs.Slices.{front}
-use Rattle.reading.proofs.Test.{both, by_test}
 use Rattle.reading.proofs.Cell.{cell_in, cell_out}
 use Rattle.reading.proofs.Front.{front_snoc}
 use Rattle.reading.proofs.Going.{Stands, begins, asks, takes_on, finds, goes_on_lem}
 use Rattle.text.specs.Limits.{max_chars}
-use Rattle.text.specs.Ranges.{to, within}
 use Rattle.text.specs.Classes.{is_vertical_space}
 use Rattle.text.specs.Hex.{hex_value}
+use Rattle.text.proofs.HexLaws.{hex_small}
 use Rattle.lexer.specs.Read.{Read, token, refused, chars}
 use Rattle.lexer.specs.Text as spec
 use Rattle.lexer.specs.Token.{fuel}
@@ -29,23 +27,7 @@ use Rattle.lexer.specs.declared.string.Hex.TheVariants.{Value, NoDigit}
 use Rattle.lexer.specs.declared.string.Piece.{Piece}
 use Rattle.lexer.specs.declared.string.Piece.TheVariants.{Char, Quote, LineEnd, TextEnd, Refused}
 use Rattle.lexer.specs.declared.string.Literal.TheVariants.{Chars, LineEnds, TextEnds, Broken}
-use Rattle.lexer.specs.Pieces.{Inside, Written, as_digit, as_plain, hex_of, hex_reach, Hexed, piece_of, least_end, end_of, Pieced, Plain}
-
-abbrev Met : Option ℕ → Type 0
-Met v = v ≡ as_digit (maybe v 16 (λ d. d))
-
--- a digit's value is below 16, which says that there is none
-digit_met : (c d : ℕ) → d ≡ maybe (hex_value c) 16 (λ d. d) → hex_value c ≡ as_digit d
-digit_met c d e = rw e
-    (by_test Met (within (to 0x30 0x39) c) (λ h. small (c - 0x30) (let l = below_end 0x30 0x39 h in omega arith))
-    (λ _. by_test Met (within (to 0x41 0x46) c) (λ h. small (c - 0x37) (let l = below_end 0x41 0x46 h in omega arith))
-    (λ _. by_test Met (within (to 0x61 0x66) c) (λ h. small (c - 0x57) (let l = below_end 0x61 0x66 h in omega arith)) (λ _. refl))))
-  where
-    below_end : (a b : ℕ) → within (to a b) c ≡ true → c ≤ b
-    below_end a b h = leb-true c b (both (leb a c) (leb c b) h).1
-
-    small : (x : ℕ) → x < 16 → Met (Some x)
-    small x h = rw (lt-ltb x 16 h)
+use Rattle.lexer.specs.Pieces.{Inside, Written, as_plain, hex_of, hex_reach, Hexed, piece_of, least_end, end_of, Pieced, Plain}
 
 -- what i digits stay below
 pub cap : ℕ → ℕ
@@ -99,26 +81,24 @@ module _ {t : List ℕ} {from count v at left : ℕ} (k : HexAt t from count v a
         let s = k.sum in let f = k.few in
         record { from = omega arith; within = k.within; goes = finds (rw (cell_out t at l) at (asks one (at + 1) (omega arith))) }
 
-    module _ (l : at < length t) {d : ℕ} (a : d ≡ maybe (hex_value (get_or t at 0)) 16 (λ d. d)) where
-      e : hex_value (get_or t at 0) ≡ as_digit d
-      e = digit_met (get_or t at 0) d a
-
-      pub hex_bad : 16 ≤ d → Hexed t from count (NoDigit 3 (get_or t at 0) at)
+    module _ (l : at < length t) where
+      pub hex_bad : None ≡ hex_value (get_or t at 0) → Hexed t from count (NoDigit 3 (get_or t at 0) at)
       unfolding spec.read_hex
-      hex_bad g =
+      hex_bad e =
           let s = k.sum in let f = k.few in
-          record { from = omega arith; within = k.within; goes = finds (rw (e, le-ltb d 16 g) at (rw (cell_in t at l) at (asks one (at + 1) (omega arith)))) }
+          record { from = omega arith; within = k.within; goes = finds (rw (← e) at (rw (cell_in t at l) at (asks one (at + 1) (omega arith)))) }
 
-      pub hex_more : d < 16 → HexAt t from count (v * 16 + d) (at + 1) (left - 1)
+      pub hex_more : {d : ℕ} → Some d ≡ hex_value (get_or t at 0) → HexAt t from count (v * 16 + d) (at + 1) (left - 1)
       unfolding spec.read_hex
-      hex_more g =
+      hex_more {d} e =
           let s = k.sum in let f = k.few in
+          let g = hex_small (get_or t at 0) d (sym e) in
           record {
             sum = omega arith;
             few = omega arith;
             within = omega arith;
             small = let c = k.small in omega (arith, cap_suc count left h f);
-            stands = rw (e, lt-ltb d 16 g) at (rw (cell_in t at l) at (asks one (at + 1) (omega arith)));
+            stands = rw (← e) at (rw (cell_in t at l) at (asks one (at + 1) (omega arith)));
           }
 
 -- an answer that ends the reading, at j and with the reach q

@@ -1,5 +1,5 @@
 -- What the code of strings answers, in the terms of the readings.
-use Rattle.std.specs.Prelude.{◌≡◌, cond, List, [], ℕ, ◌+◌, ◌≤◌, ◌<◌, ltb, eqb, length, get_or, Option, None, Some}
+use Rattle.std.specs.Prelude.{◌≡◌, cond, List, [], ℕ, ◌+◌, ◌≤◌, ◌<◌, eqb, length, get_or, Option, None, Some}
 use Rattle.reading.specs.Look.{Look}
 use Rattle.reading.specs.Goes.{Goes}
 use Rattle.reading.specs.Slices.{Wrote}
@@ -13,10 +13,6 @@ use Rattle.lexer.specs.declared.string.Hex.{Hex}
 use Rattle.lexer.specs.declared.string.Hex.TheVariants.{Value, NoDigit}
 use Rattle.lexer.specs.declared.string.Piece.{Piece}
 use Rattle.lexer.specs.declared.string.Piece.TheVariants.{Char, Quote, LineEnd, TextEnd, Refused}
-
--- a digit's value; 16 says that there is none
-abbrev pub as_digit : ℕ → Option ℕ
-as_digit d = cond (ltb d 16) (Some d) None
 
 -- what a plain escape stands for; 0 says that it is none
 abbrev pub as_plain : ℕ → Option ℕ

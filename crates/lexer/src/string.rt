@@ -43,10 +43,9 @@ fn read_hex(rest: &[u32], from: usize, count: usize) -> Hex
             return Hex::NoDigit(Refusal::END_AT_HEX_DIGIT, 0, at);
         }
         let c = rest[at];
-        let d = text::hex::hex_to_decimal(c);
-        if 16 <= d {
+        let Some(d) = text::hex::hex_to_decimal(c) else {
             return Hex::NoDigit(Refusal::NO_HEX_DIGIT, c, at);
-        }
+        };
         value = value * 16 + d;
         at += 1;
         left -= 1;

@@ -1,5 +1,6 @@
 pub mod RangeLaws
 pub mod Scalars
+pub mod HexLaws
 pub mod Lengths
 pub mod Utf8Laws
 pub mod Utf8Loops

@@ -1,43 +1,59 @@
 // The character classes, each a table of ranges that rise.
 // Ruled out, among others: a range one short at its end (U+200B no whitespace); the last character of a range left out.
-ghost use Rattle.std.specs.Prelude.{◌≡◌, true};
-ghost use Rattle.text.specs.Ranges.{to, within, Found, rises};
+ghost use Rattle.std.specs.Prelude.{◌≡◌, ℕ, Bool, true};
+ghost use Rattle.text.specs.Ranges.{Found, rises};
 ghost use Rattle.text.specs.Classes as spec;
 
 use crate::chars::Char;
+
+// A class of characters.
+pub trait Class {
+    ghost class: { ℕ → Bool };
+
+    // Whether c is of the class.
+    fn has(c: u32) -> bool
+        ensures { result ≡ class c };
+}
+
+pub struct VerticalSpace;
+
+pub struct Whitespace;
+
+pub struct Digit;
+
+pub struct NameStart;
+
+pub struct NamePart;
+
+// Unicode's White_Space, for trimming.
+pub struct White;
+
+pub struct Scalar;
+
+// An additional name symbol.
+pub struct Symbol;
+
+pub struct Separator;
 
 // Whether c lies in a range of the table. The first range above c ends the search, so that an ASCII character costs few comparisons.
 pub fn in_ranges(table: &[[u32; 2]], c: u32) -> bool
     requires { rises 0 table.now ≡ true }
     ensures { Found table.now c result }
 {
-    let mut i: usize = 0;
-    while i < table.len() {
-        let first = table[i][0];
-        if c < first {
+    for [first, last] in table {
+        if c < *first {
             return false;
         }
-        let last = table[i][1];
-        if c <= last {
+        if c <= *last {
             return true;
         }
-        i += 1;
     }
     false
 }
 
-fn is_between(c: u32, low: u32, high: u32) -> bool
-    ensures { result ≡ within (to low high) c }
-{
-    if c < low {
-        return false;
-    }
-    c <= high
-}
+static VERTICAL_SPACES: [[u32; 2]; 1] = [[0x0A, 0x0D]];
 
-const VERTICAL_SPACES: [[u32; 2]; 1] = [[0x0A, 0x0D]];
-
-const WHITESPACES: [[u32; 2]; 14] = [
+static WHITESPACES: [[u32; 2]; 14] = [
     [0x09, 0x09],
     [0x0A, 0x0D],
     [0x20, 0x20],
@@ -54,9 +70,9 @@ const WHITESPACES: [[u32; 2]; 14] = [
     [0xFEFF, 0xFEFF],
 ];
 
-const DIGITS: [[u32; 2]; 1] = [[0x30, 0x39]];
+static DIGITS: [[u32; 2]; 1] = [[0x30, 0x39]];
 
-const NAME_STARTS: [[u32; 2]; 16] = [
+static NAME_STARTS: [[u32; 2]; 16] = [
     [0x3F, 0x3F],
     [0x41, 0x5A],
     [0x5F, 0x5F],
@@ -75,7 +91,7 @@ const NAME_STARTS: [[u32; 2]; 16] = [
     [0x10000, 0xEFFFF],
 ];
 
-const NAME_PARTS: [[u32; 2]; 20] = [
+static NAME_PARTS: [[u32; 2]; 20] = [
     [0x30, 0x39],
     [0x3F, 0x3F],
     [0x41, 0x5A],
@@ -98,7 +114,7 @@ const NAME_PARTS: [[u32; 2]; 20] = [
     [0x10000, 0xEFFFF],
 ];
 
-const WHITE_SPACES: [[u32; 2]; 11] = [
+static WHITE_SPACES: [[u32; 2]; 11] = [
     [0x09, 0x0D],
     [0x20, 0x20],
     [0x85, 0x85],
@@ -112,9 +128,9 @@ const WHITE_SPACES: [[u32; 2]; 11] = [
     [0x3000, 0x3000],
 ];
 
-const SCALARS: [[u32; 2]; 2] = [[0x0, 0xD7FF], [0xE000, 0x10FFFF]];
+static SCALARS: [[u32; 2]; 2] = [[0x0, 0xD7FF], [0xE000, 0x10FFFF]];
 
-const SYMBOLS: [[u32; 2]; 6] = [
+static SYMBOLS: [[u32; 2]; 6] = [
     [0x27, 0x27],
     [0x2A, 0x2A],
     [0x2B, 0x2B],
@@ -123,7 +139,7 @@ const SYMBOLS: [[u32; 2]; 6] = [
     [0x2F, 0x2F],
 ];
 
-const SEPARATORS: [[u32; 2]; 16] = [
+static SEPARATORS: [[u32; 2]; 16] = [
     [0x20, 0x20],
     [0x21, 0x21],
     [0x25, 0x25],
@@ -142,77 +158,155 @@ const SEPARATORS: [[u32; 2]; 16] = [
     [0x7D, 0x7D],
 ];
 
-pub fn is_vertical_space(c: u32) -> bool
-    ensures { result ≡ spec.is_vertical_space c }
-{
-    in_ranges(&VERTICAL_SPACES, c)
+impl Class for VerticalSpace {
+    ghost class = { spec.is_vertical_space };
+
+    #[tactic(auto, unfolding(crate::specs::Ranges::rises, crate::specs::Classes::is_vertical_space))]
+    fn has(c: u32) -> bool {
+        in_ranges(&VERTICAL_SPACES, c)
+    }
 }
 
 // Most whitespace is a space, and most other characters of a rule lie where there is none.
+impl Class for Whitespace {
+    ghost class = { spec.is_whitespace };
+
+    #[tactic(auto, using(crate::proofs::RangeLaws::same_class), unfolding(crate::specs::Ranges::rises, crate::specs::Classes::is_whitespace))]
+    fn has(c: u32) -> bool {
+        match c {
+            Char::SPACE => true,
+            0x21..=0x84 => false,
+            _ => in_ranges(&WHITESPACES, c),
+        }
+    }
+}
+
+impl Class for Digit {
+    ghost class = { spec.is_digit };
+
+    #[tactic(auto, unfolding(crate::specs::Ranges::rises, crate::specs::Classes::is_digit))]
+    fn has(c: u32) -> bool {
+        in_ranges(&DIGITS, c)
+    }
+}
+
+// Most characters of a name are small letters.
+impl Class for NameStart {
+    ghost class = { spec.is_name_start };
+
+    #[tactic(auto, unfolding(crate::specs::Ranges::rises, crate::specs::Classes::is_name_start))]
+    fn has(c: u32) -> bool {
+        match c {
+            Char::SMALL_A..=Char::SMALL_Z => true,
+            _ => in_ranges(&NAME_STARTS, c),
+        }
+    }
+}
+
+impl Class for NamePart {
+    ghost class = { spec.is_name_part };
+
+    #[tactic(auto, using(crate::proofs::RangeLaws::same_class), unfolding(crate::specs::Ranges::rises, crate::specs::Classes::is_name_part))]
+    fn has(c: u32) -> bool {
+        match c {
+            Char::SMALL_A..=Char::SMALL_Z => true,
+            _ => in_ranges(&NAME_PARTS, c),
+        }
+    }
+}
+
+impl Class for White {
+    ghost class = { spec.is_white };
+
+    #[tactic(auto, unfolding(crate::specs::Ranges::rises, crate::specs::Classes::is_white))]
+    fn has(c: u32) -> bool {
+        match c {
+            0x21..=0x84 => false,
+            _ => in_ranges(&WHITE_SPACES, c),
+        }
+    }
+}
+
+impl Class for Scalar {
+    ghost class = { spec.is_scalar };
+
+    #[tactic(auto, unfolding(crate::specs::Ranges::rises, crate::specs::Classes::is_scalar))]
+    fn has(c: u32) -> bool {
+        in_ranges(&SCALARS, c)
+    }
+}
+
+impl Class for Symbol {
+    ghost class = { spec.is_symbol };
+
+    #[tactic(auto, unfolding(crate::specs::Ranges::rises, crate::specs::Classes::is_symbol))]
+    fn has(c: u32) -> bool {
+        match c {
+            0x30..=0x7E => false,
+            _ => in_ranges(&SYMBOLS, c),
+        }
+    }
+}
+
+impl Class for Separator {
+    ghost class = { spec.is_separator };
+
+    #[tactic(auto, unfolding(crate::specs::Ranges::rises, crate::specs::Classes::is_separator))]
+    fn has(c: u32) -> bool {
+        in_ranges(&SEPARATORS, c)
+    }
+}
+
+pub fn is_vertical_space(c: u32) -> bool
+    ensures { result ≡ spec.is_vertical_space c }
+{
+    VerticalSpace::has(c)
+}
+
 pub fn is_whitespace(c: u32) -> bool
     ensures { result ≡ spec.is_whitespace c }
 {
-    if Char::SPACE == c {
-        return true;
-    }
-    if is_between(c, 0x21, 0x84) {
-        return false;
-    }
-    in_ranges(&WHITESPACES, c)
+    Whitespace::has(c)
 }
 
 pub fn is_digit(c: u32) -> bool
     ensures { result ≡ spec.is_digit c }
 {
-    in_ranges(&DIGITS, c)
+    Digit::has(c)
 }
 
-// Most characters of a name are small letters.
 pub fn is_name_start_char(c: u32) -> bool
     ensures { result ≡ spec.is_name_start c }
 {
-    if is_between(c, Char::SMALL_A, Char::SMALL_Z) {
-        return true;
-    }
-    in_ranges(&NAME_STARTS, c)
+    NameStart::has(c)
 }
 
 pub fn is_name_part_char(c: u32) -> bool
     ensures { result ≡ spec.is_name_part c }
 {
-    if is_between(c, Char::SMALL_A, Char::SMALL_Z) {
-        return true;
-    }
-    in_ranges(&NAME_PARTS, c)
+    NamePart::has(c)
 }
 
-// Unicode's White_Space, for trimming.
 pub fn is_white_space(c: u32) -> bool
     ensures { result ≡ spec.is_white c }
 {
-    if is_between(c, 0x21, 0x84) {
-        return false;
-    }
-    in_ranges(&WHITE_SPACES, c)
+    White::has(c)
 }
 
 pub fn is_scalar(c: u32) -> bool
     ensures { result ≡ spec.is_scalar c }
 {
-    in_ranges(&SCALARS, c)
+    Scalar::has(c)
 }
 
 pub fn is_additional_name_symbol(c: u32) -> bool
     ensures { result ≡ spec.is_symbol c }
 {
-    if is_between(c, 0x30, 0x7E) {
-        return false;
-    }
-    in_ranges(&SYMBOLS, c)
+    Symbol::has(c)
 }
 
 pub fn is_separator(c: u32) -> bool
     ensures { result ≡ spec.is_separator c }
 {
-    in_ranges(&SEPARATORS, c)
+    Separator::has(c)
 }

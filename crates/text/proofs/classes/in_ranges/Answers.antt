@@ -3,17 +3,17 @@ use native.Mathlib.Omega.{arith}
 use Rattle.text.proofs.RangeLaws.{search_none, search_below, search_in, search_more, search_end}
 use Rattle.text.proofs.classes.in_ranges.Goals as goal
 
-pub loop-i-init : goal.loop-i-init
-loop-i-init c = search_none c.requires
+pub loop-first-init : goal.loop-first-init
+loop-first-init c = search_none c.requires
 
 pub returns-then-c-first : goal.returns-then-c-first
-returns-then-c-first c = search_below c.loop-i.invariant (omega arith) (omega arith)
+returns-then-c-first c = search_below c.loop-first.invariant (omega arith) (omega arith)
 
 pub returns-then-c-last : goal.returns-then-c-last
-returns-then-c-last c = search_in c.loop-i.invariant (omega arith) (omega arith) (omega arith)
+returns-then-c-last c = search_in c.loop-first.invariant (omega arith) (omega arith) (omega arith)
 
-pub loop-i-preserved : goal.loop-i-preserved
-loop-i-preserved c = search_more c.loop-i.invariant (omega arith) (omega arith) (omega arith)
+pub loop-first-preserved : goal.loop-first-preserved
+loop-first-preserved c = search_more c.loop-first.invariant (omega arith) (omega arith) (omega arith)
 
 pub returns : goal.returns
-returns c = search_end c.loop-i.invariant (omega arith)
+returns c = search_end c.loop-first.invariant (omega arith)

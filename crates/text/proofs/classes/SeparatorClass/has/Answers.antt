@@ -1,14 +1,9 @@
 -- The table in code and the definition's list, as ranges of one, cover each other, by computation.
 use mathlib.Core.Path.{refl}
 use Rattle.reading.specs.Codes.{codes}
-use Rattle.text.specs.Ranges.{rises}
 use Rattle.text.specs.Classes.{is_separator}
 use Rattle.text.proofs.RangeLaws.{covered, all_covered, same_list_lem}
-use Rattle.text.proofs.classes.is_separator.Goals as goal
-
-pub in_ranges-requires : goal.in_ranges-requires
-unfolding rises
-in_ranges-requires c = refl
+use Rattle.text.proofs.classes.SeparatorClass.has.Goals as goal
 
 pub returns : goal.returns
 unfolding is_separator covered all_covered
