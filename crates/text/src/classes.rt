@@ -171,7 +171,7 @@ impl Class for VerticalSpace {
 impl Class for Whitespace {
     ghost class = { spec.is_whitespace };
 
-    #[tactic(auto, using(crate::proofs::RangeLaws::same_class), unfolding(crate::specs::Ranges::rises, crate::specs::Classes::is_whitespace))]
+    #[tactic(auto, unfolding(crate::specs::Ranges::rises, crate::specs::Classes::is_whitespace))]
     fn has(c: u32) -> bool {
         match c {
             Char::SPACE => true,
@@ -206,7 +206,7 @@ impl Class for NameStart {
 impl Class for NamePart {
     ghost class = { spec.is_name_part };
 
-    #[tactic(auto, using(crate::proofs::RangeLaws::same_class), unfolding(crate::specs::Ranges::rises, crate::specs::Classes::is_name_part))]
+    #[tactic(auto, unfolding(crate::specs::Ranges::rises, crate::specs::Classes::is_name_part))]
     fn has(c: u32) -> bool {
         match c {
             Char::SMALL_A..=Char::SMALL_Z => true,
