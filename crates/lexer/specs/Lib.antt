@@ -14,6 +14,7 @@ pub mod Answers
 pub mod Numerals
 pub mod Pieces
 pub mod Places
+pub mod FlagBits
 pub mod FlagsOf
 pub mod Answered
 pub mod Taken

@@ -1,9 +1,20 @@
 // The five flags of the lexer's state.
-ghost use Rattle.std.specs.Prelude.{◌≡◌};
-ghost use Rattle.lexer.specs.Flags.{UnaryTests, TypeName, TillIn, AfterDot, clear};
-ghost use Rattle.lexer.specs.FlagsOf.{flags_of};
+ghost use Rattle.std.specs.Prelude.{◌≡◌, true, false};
+ghost use Rattle.lexer.specs.Flags.{put, clear};
+ghost use Rattle.lexer.specs.FlagBits.{flag_bits, bit_flags};
+ghost use Rattle.lexer.specs.FlagsOf.{flags_of, flag_named};
 
+// A flag by name, and its bit where the five are one number.
 #[derive(Clone, Copy)]
+pub enum Flag {
+    UnaryTests = 1,
+    Between = 2,
+    TypeName = 4,
+    TillIn = 8,
+    AfterDot = 16,
+}
+
+#[derive(Clone, Copy, Default)]
 pub struct Flags {
     pub unary_tests: bool,
     pub between: bool,
@@ -16,51 +27,75 @@ impl Flags {
     // All five as one number.
     pub const ALL: u32 = 31;
 
-    pub fn clear_unary_tests(self) -> Flags
-        ensures { flags_of result ≡ clear UnaryTests (flags_of self) }
+    // This flag alone anew.
+    #[inline]
+    fn put(self, flag: Flag, on: bool) -> Flags
+        ensures { flags_of result ≡ put on (flag_named flag) (flags_of self) }
     {
-        Flags {
-            unary_tests: false,
-            between: self.between,
-            type_name: self.type_name,
-            till_in: self.till_in,
-            after_dot: self.after_dot,
+        match flag {
+            Flag::UnaryTests => Flags {
+                unary_tests: on,
+                ..self
+            },
+            Flag::Between => Flags {
+                between: on,
+                ..self
+            },
+            Flag::TypeName => Flags {
+                type_name: on,
+                ..self
+            },
+            Flag::TillIn => Flags {
+                till_in: on,
+                ..self
+            },
+            Flag::AfterDot => Flags {
+                after_dot: on,
+                ..self
+            },
         }
     }
 
-    pub fn clear_type_name(self) -> Flags
-        ensures { flags_of result ≡ clear TypeName (flags_of self) }
+    // Ruled out, among others: another flag set with it; a flag that was set cleared.
+    #[inline]
+    pub fn set(self, flag: Flag) -> Flags
+        ensures { flags_of result ≡ put true (flag_named flag) (flags_of self) }
     {
-        Flags {
-            unary_tests: self.unary_tests,
-            between: self.between,
-            type_name: false,
-            till_in: self.till_in,
-            after_dot: self.after_dot,
-        }
+        self.put(flag, true)
     }
 
-    pub fn clear_till_in(self) -> Flags
-        ensures { flags_of result ≡ clear TillIn (flags_of self) }
+    // Ruled out, among others: all five cleared; `between` cleared for `type_name`.
+    #[inline]
+    pub fn clear(self, flag: Flag) -> Flags
+        ensures { flags_of result ≡ clear (flag_named flag) (flags_of self) }
     {
-        Flags {
-            unary_tests: self.unary_tests,
-            between: self.between,
-            type_name: self.type_name,
-            till_in: false,
-            after_dot: self.after_dot,
-        }
+        self.put(flag, false)
     }
 
-    pub fn clear_after_dot(self) -> Flags
-        ensures { flags_of result ≡ clear AfterDot (flags_of self) }
+    // The flags of a number.
+    pub fn from_bits(n: u32) -> Flags
+        ensures { flags_of result ≡ bit_flags n }
     {
+        let has = |flag: Flag| n / flag as u32 % 2 == 1;
         Flags {
-            unary_tests: self.unary_tests,
-            between: self.between,
-            type_name: self.type_name,
-            till_in: self.till_in,
-            after_dot: false,
+            unary_tests: has(Flag::UnaryTests),
+            between: has(Flag::Between),
+            type_name: has(Flag::TypeName),
+            till_in: has(Flag::TillIn),
+            after_dot: has(Flag::AfterDot),
         }
+    }
+}
+
+impl From<Flags> for u32 {
+    ghost from_gives = { λ f n. n ≡ flag_bits (flags_of f) };
+
+    fn from(flags: Flags) -> u32 {
+        let bit = |flag: Flag, on: bool| flag as u32 * u32::from(on);
+        bit(Flag::UnaryTests, flags.unary_tests)
+            + bit(Flag::Between, flags.between)
+            + bit(Flag::TypeName, flags.type_name)
+            + bit(Flag::TillIn, flags.till_in)
+            + bit(Flag::AfterDot, flags.after_dot)
     }
 }

@@ -18,7 +18,7 @@ ghost use Rattle.lexer.specs.Fit.{Searchable};
 ghost use Rattle.lexer.specs.Taken.{Gives, Takes};
 ghost use Rattle.naming.specs.Cut.{Before, Roomy, by_prefix_of, by_in_of, cut_in_of};
 
-use lexer::flags::Flags;
+use lexer::flags::{Flag, Flags};
 use lexer::token::{Outcome, Read};
 use lexer::token_type::TokenType;
 use scope::scope::{Scope, Slot};
@@ -160,7 +160,7 @@ fn all_parts(
         return Outcome {
             read: Read::Chars(TokenType::BUILT_IN_TYPE_NAME, k),
             used: end,
-            flags: flags.clear_type_name(),
+            flags: flags.clear(Flag::TypeName),
             reach: end + 1,
         };
     }
@@ -204,7 +204,7 @@ fn by_prefix(
         return all_parts(rest, from, n, end, flags, out);
     }
     if p.property {
-        return cut_at(rest, from, n, m, flags.clear_after_dot(), end + 1, out);
+        return cut_at(rest, from, n, m, flags.clear(Flag::AfterDot), end + 1, out);
     }
     cut_at(rest, from, n, m, flags, end + 1, out)
 }
@@ -272,7 +272,7 @@ fn by_in(
             reach: end + 1,
         };
     }
-    cut_at(rest, from, n, m, flags.clear_till_in(), end + 1, out)
+    cut_at(rest, from, n, m, flags.clear(Flag::TillIn), end + 1, out)
 }
 
 // The name that begins at i, with a name character. No name of the scope has more than cap characters; scratch is found and left zero.

@@ -1,6 +1,7 @@
 -- An item of a run. 01: it holds type or refusal, value, position and flags after, and reach.
-use Rattle.std.specs.Prelude.{Bool, cond, List, ℕ, length}
+use Rattle.std.specs.Prelude.{Bool, List, ℕ, length}
 use Rattle.lexer.specs.Flags.{Flags}
+pub use Rattle.lexer.specs.FlagBits.{bit}
 use Rattle.lexer.specs.Read.{Read, token, refused, nothing, truth, number, chars, is_refused, number_of, cells_of, is_last}
 
 -- The three lengths of a number: its digits before and after the point and of the exponent.
@@ -26,9 +27,6 @@ lengths_of (token k (truth b)) = record { before = 0; after = 0; exponent = 0 }
 lengths_of (token k (number before after minus exponent)) = record { before = length before; after = length after; exponent = length exponent }
 lengths_of (token k (chars cs)) = record { before = 0; after = 0; exponent = 0 }
 lengths_of (refused n c) = record { before = 0; after = 0; exponent = 0 }
-
-abbrev pub bit : Bool → ℕ
-bit b = cond b 1 0
 
 -- 1 for true, 1 for a minus, or the carry.
 abbrev pub extra_of : Read → ℕ

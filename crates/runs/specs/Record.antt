@@ -1,20 +1,10 @@
 -- The number form of a record: a row of eleven numbers an item, and one store of value cells.
-use Rattle.std.specs.Prelude.{Bool, List, [], ◌∷◌, ◌++◌, map, ℕ, ◌+◌, ◌*◌, ◌/◌, ◌%◌, eqb, length, get_or, take, drop}
-use Rattle.lexer.specs.Flags.{Flags}
+use Rattle.std.specs.Prelude.{List, [], ◌∷◌, ◌++◌, map, ℕ, ◌+◌, eqb, length, get_or, take, drop}
+pub use Rattle.lexer.specs.FlagBits.{flag_bits, has_bit, bit_flags}
 use Rattle.runs.specs.Item.{Item, bit}
 use Rattle.runs.specs.Edit.{Edit}
 use Rattle.runs.specs.Run.{Reader}
 use Rattle.runs.specs.Repair.{repair_items}
-
--- Flags as one number.
-abbrev pub flag_bits : Flags → ℕ
-flag_bits f = bit f.unary_tests + 2 * bit f.between + 4 * bit f.type_name + 8 * bit f.till_in + 16 * bit f.after_dot
-
-abbrev pub has_bit : ℕ → ℕ → Bool
-has_bit k n = eqb (n / k % 2) 1
-
-abbrev pub bit_flags : ℕ → Flags
-bit_flags n = record { unary_tests = has_bit 1 n; between = has_bit 2 n; type_name = has_bit 4 n; till_in = has_bit 8 n; after_dot = has_bit 16 n }
 
 pub record Record : Type 0 where
   pub rows : List (List ℕ)

@@ -5,7 +5,7 @@ ghost use Rattle.lexer.specs.FlagsOf.{flags_of};
 ghost use Rattle.lexer.specs.Answered.{cell_count};
 ghost use Rattle.lexer.specs.Read.{is_last};
 ghost use Rattle.runs.specs.Item as spec;
-ghost use Rattle.runs.specs.Record.{flag_bits, has_bit, bit_flags};
+ghost use Rattle.runs.specs.Record.{flag_bits, bit_flags};
 ghost use Rattle.runs.specs.Coded.{plain, item_from, Small, row_from};
 
 use lexer::flags::Flags;
@@ -159,37 +159,14 @@ fn bit(b: bool) -> u32
 pub fn flag_bits(flags: Flags) -> u32
     ensures { result ≡ flag_bits (flags_of flags) }
 {
-    let a = bit(flags.unary_tests);
-    let b = bit(flags.between);
-    let c = bit(flags.type_name);
-    let d = bit(flags.till_in);
-    let e = bit(flags.after_dot);
-    a + 2 * b + 4 * c + 8 * d + 16 * e
-}
-
-fn has_bit(k: u32, n: u32) -> bool
-    requires { 0 < k }
-    ensures { result ≡ has_bit k n }
-{
-    n / k % 2 == 1
+    u32::from(flags)
 }
 
 // The flags of a number.
 pub fn bit_flags(n: u32) -> Flags
     ensures { flags_of result ≡ bit_flags n }
 {
-    let unary_tests = has_bit(1, n);
-    let between = has_bit(2, n);
-    let type_name = has_bit(4, n);
-    let till_in = has_bit(8, n);
-    let after_dot = has_bit(16, n);
-    Flags {
-        unary_tests,
-        between,
-        type_name,
-        till_in,
-        after_dot,
-    }
+    Flags::from_bits(n)
 }
 
 // The row of an item whose value starts at `start`.

@@ -21,7 +21,7 @@ ghost use Rattle.lexer.specs.FlagsOf.{flags_of};
 ghost use Rattle.lexer.specs.Fit.{Clear, Searchable};
 ghost use Rattle.lexer.specs.Taken.{Gives, Takes, Taken};
 
-use lexer::flags::Flags;
+use lexer::flags::{Flag, Flags};
 use lexer::string::Literal;
 use lexer::token::{Outcome, Read};
 use lexer::token_type::TokenType;
@@ -266,7 +266,7 @@ pub fn read_token(
     let token = o.read;
     let used = o.used;
     let before = o.flags;
-    let after = before.clear_unary_tests();
+    let after = before.clear(Flag::UnaryTests);
     let reach = o.reach;
     Outcome {
         read: token,

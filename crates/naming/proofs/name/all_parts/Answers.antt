@@ -13,7 +13,7 @@ pub slice_bounds-is_type-end-2 : goal.slice_bounds-is_type-end-2
 slice_bounds-is_type-end-2 c = written_size _ _ _ c.write_parts-k.ensures
 
 pub returns-then-is_type : goal.returns-then-is_type
-returns-then-is_type c = λ is_name. all_type _ _ _ _ c.write_parts-k.ensures c.args.flags is_name c.is_type.ensures c.if-is_type.true c.clear_type_name.ensures
+returns-then-is_type c = λ is_name. all_type _ _ _ _ c.write_parts-k.ensures c.args.flags is_name c.is_type.ensures c.if-is_type.true c.clear.ensures
 
 pub slice_bounds-is_temporal-end : goal.slice_bounds-is_temporal-end
 slice_bounds-is_temporal-end c = let l = written_room _ _ _ c.write_parts-k.ensures c.requires.2 in omega arith

@@ -24,4 +24,4 @@ pub returns : goal.returns
 returns c =
     let x = c.args in
     let e = in_later (flags_of x.flags) (is_name (scope_of (lent x.s x.slots.now x.names.now))) x.rest.now x.from x.n x.end (not-false _ c.if-not-flags.false) c.before_in-m.ensures (omega arith) (omega arith) (prefix_many _ _ _ _ c.requires.0.count (omega arith)) in
-    (gives_as e (gives_flags c.clear_till_in.ensures c.cut_at.ensures), refl)
+    (gives_as e (gives_flags c.clear.ensures c.cut_at.ensures), refl)

@@ -15,7 +15,7 @@ pub cut_at-requires : goal.cut_at-requires
 cut_at-requires c = let l = c.longest_prefix-p.ensures in let u = longest_less l.0 in let e = c.requires.0.on in let z = c.requires.0.within in (omega arith, omega arith, omega arith, c.requires.0.count, c.requires.1)
 
 pub returns-then-p : goal.returns-then-p
-returns-then-p c = let l = c.longest_prefix-p.ensures in (prefix_property l.0 c.requires.0 (omega arith) c.cut_at.ensures c.if-p.true c.clear_after_dot.ensures, l.1)
+returns-then-p c = let l = c.longest_prefix-p.ensures in (prefix_property l.0 c.requires.0 (omega arith) c.cut_at.ensures c.if-p.true c.clear.ensures, l.1)
 
 pub cut_at-requires-2 : goal.cut_at-requires-2
 cut_at-requires-2 c = let l = c.longest_prefix-p.ensures in let u = longest_less l.0 in let e = c.requires.0.on in let z = c.requires.0.within in (omega arith, omega arith, omega arith, c.requires.0.count, c.requires.1)
