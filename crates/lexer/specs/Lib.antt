@@ -1,5 +1,6 @@
 pub mod TokenType
 pub mod TokenTypes
+pub mod TypeNumber
 pub mod Flags
 pub mod Read
 pub mod Skip

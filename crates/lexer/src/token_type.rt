@@ -1,206 +1,283 @@
 // The token types: their numbers are those of the grammar tables (lalr.rs).
 ghost use Rattle.std.specs.Prelude.{◌≡◌};
 ghost use Rattle.lexer.specs.TokenTypes as spec;
-
-#[derive(Clone, Copy)]
-pub struct TokenType {}
-
-impl TokenType {
-    pub const YY_EOF: u32 = 0;
-
-    pub const YY_ERROR: u32 = 256;
-
-    pub const YY_UNDEF: u32 = 257;
-
-    pub const START_EXPRESSION: u32 = 258;
-
-    pub const START_BOXED_EXPRESSION: u32 = 259;
-
-    pub const START_TEXTUAL_EXPRESSION: u32 = 260;
-
-    pub const START_TEXTUAL_EXPRESSIONS: u32 = 261;
-
-    pub const START_UNARY_TESTS: u32 = 262;
-
-    pub const START_SIMPLE_EXPRESSION: u32 = 263;
-
-    pub const START_SIMPLE_EXPRESSIONS: u32 = 264;
-
-    pub const START_SIMPLE_VALUE: u32 = 265;
-
-    pub const START_RANGE_LITERAL: u32 = 266;
-
-    pub const AT: u32 = 267;
-
-    pub const NOT: u32 = 268;
-
-    pub const COLON: u32 = 269;
-
-    pub const COMMA: u32 = 270;
-
-    pub const EVERY: u32 = 271;
-
-    pub const FOR: u32 = 272;
-
-    pub const LEFT_BRACE: u32 = 273;
-
-    pub const NULL: u32 = 274;
-
-    pub const RIGHT_ARROW: u32 = 275;
-
-    pub const OF: u32 = 276;
-
-    pub const LIST: u32 = 277;
-
-    pub const RANGE: u32 = 278;
-
-    pub const CONTEXT: u32 = 279;
-
-    pub const THEN: u32 = 280;
-
-    pub const FUNCTION: u32 = 281;
-
-    pub const EXTERNAL: u32 = 282;
-
-    pub const IF: u32 = 283;
-
-    pub const RIGHT_BRACE: u32 = 284;
-
-    pub const RETURN: u32 = 285;
-
-    pub const SOME: u32 = 286;
-
-    pub const NUMERIC: u32 = 287;
-
-    pub const STRING: u32 = 288;
-
-    pub const BOOLEAN: u32 = 289;
-
-    pub const SATISFIES: u32 = 290;
-
-    pub const ELSE: u32 = 291;
-
-    pub const OR: u32 = 292;
-
-    pub const AND: u32 = 293;
-
-    pub const EQ: u32 = 294;
-
-    pub const NE: u32 = 295;
-
-    pub const LT: u32 = 296;
-
-    pub const LE: u32 = 297;
-
-    pub const GT: u32 = 298;
-
-    pub const GE: u32 = 299;
-
-    pub const BETWEEN: u32 = 300;
-
-    pub const BETWEEN_AND: u32 = 301;
-
-    pub const IN: u32 = 302;
-
-    pub const MINUS: u32 = 303;
-
-    pub const PLUS: u32 = 304;
-
-    pub const MUL: u32 = 305;
-
-    pub const DIV: u32 = 306;
-
-    pub const EXP: u32 = 307;
-
-    pub const INSTANCE: u32 = 309;
-
-    pub const NAME: u32 = 310;
-
-    pub const NAME_DATE_TIME: u32 = 311;
-
-    pub const BUILT_IN_TYPE_NAME: u32 = 312;
-
-    pub const LEFT_PAREN: u32 = 313;
-
-    pub const RIGHT_PAREN: u32 = 314;
-
-    pub const LEFT_BRACKET: u32 = 315;
-
-    pub const RIGHT_BRACKET: u32 = 316;
-
-    pub const ELLIPSIS: u32 = 317;
-
-    pub const DOT: u32 = 318;
+ghost use Rattle.lexer.specs.TypeNumber.{type_number};
+
+#[derive(Clone, Copy, PartialEq, Eq)]
+pub enum TokenType {
+    YyEof = 0,
+    YyError = 256,
+    YyUndef = 257,
+    StartExpression = 258,
+    StartBoxedExpression = 259,
+    StartTextualExpression = 260,
+    StartTextualExpressions = 261,
+    StartUnaryTests = 262,
+    StartSimpleExpression = 263,
+    StartSimpleExpressions = 264,
+    StartSimpleValue = 265,
+    StartRangeLiteral = 266,
+    At = 267,
+    Not = 268,
+    Colon = 269,
+    Comma = 270,
+    Every = 271,
+    For = 272,
+    LeftBrace = 273,
+    Null = 274,
+    RightArrow = 275,
+    Of = 276,
+    List = 277,
+    Range = 278,
+    Context = 279,
+    Then = 280,
+    Function = 281,
+    External = 282,
+    If = 283,
+    RightBrace = 284,
+    Return = 285,
+    Some = 286,
+    Numeric = 287,
+    String = 288,
+    Boolean = 289,
+    Satisfies = 290,
+    Else = 291,
+    Or = 292,
+    And = 293,
+    Eq = 294,
+    Ne = 295,
+    Lt = 296,
+    Le = 297,
+    Gt = 298,
+    Ge = 299,
+    Between = 300,
+    BetweenAnd = 301,
+    In = 302,
+    Minus = 303,
+    Plus = 304,
+    Mul = 305,
+    Div = 306,
+    Exp = 307,
+    Instance = 309,
+    Name = 310,
+    NameDateTime = 311,
+    BuiltInTypeName = 312,
+    LeftParen = 313,
+    RightParen = 314,
+    LeftBracket = 315,
+    RightBracket = 316,
+    Ellipsis = 317,
+    Dot = 318,
 }
 
-// Every token type, in the order of the definitions.
-// Ruled out, among others: a constant that is another number than the grammar's, though no code uses it.
+impl From<TokenType> for u32 {
+    ghost from_gives = { λ t n. n ≡ type_number t };
+
+    #[inline]
+    fn from(t: TokenType) -> u32 {
+        t as u32
+    }
+}
+
+impl TokenType {
+    // Every token type, in the order of the definitions.
+    pub const ALL: [TokenType; 63] = [
+        TokenType::YyEof,
+        TokenType::YyError,
+        TokenType::YyUndef,
+        TokenType::StartExpression,
+        TokenType::StartBoxedExpression,
+        TokenType::StartTextualExpression,
+        TokenType::StartTextualExpressions,
+        TokenType::StartUnaryTests,
+        TokenType::StartSimpleExpression,
+        TokenType::StartSimpleExpressions,
+        TokenType::StartSimpleValue,
+        TokenType::StartRangeLiteral,
+        TokenType::At,
+        TokenType::Not,
+        TokenType::Colon,
+        TokenType::Comma,
+        TokenType::Every,
+        TokenType::For,
+        TokenType::LeftBrace,
+        TokenType::Null,
+        TokenType::RightArrow,
+        TokenType::Of,
+        TokenType::List,
+        TokenType::Range,
+        TokenType::Context,
+        TokenType::Then,
+        TokenType::Function,
+        TokenType::External,
+        TokenType::If,
+        TokenType::RightBrace,
+        TokenType::Return,
+        TokenType::Some,
+        TokenType::Numeric,
+        TokenType::String,
+        TokenType::Boolean,
+        TokenType::Satisfies,
+        TokenType::Else,
+        TokenType::Or,
+        TokenType::And,
+        TokenType::Eq,
+        TokenType::Ne,
+        TokenType::Lt,
+        TokenType::Le,
+        TokenType::Gt,
+        TokenType::Ge,
+        TokenType::Between,
+        TokenType::BetweenAnd,
+        TokenType::In,
+        TokenType::Minus,
+        TokenType::Plus,
+        TokenType::Mul,
+        TokenType::Div,
+        TokenType::Exp,
+        TokenType::Instance,
+        TokenType::Name,
+        TokenType::NameDateTime,
+        TokenType::BuiltInTypeName,
+        TokenType::LeftParen,
+        TokenType::RightParen,
+        TokenType::LeftBracket,
+        TokenType::RightBracket,
+        TokenType::Ellipsis,
+        TokenType::Dot,
+    ];
+
+    pub const YY_EOF: u32 = TokenType::YyEof as u32;
+
+    pub const YY_ERROR: u32 = TokenType::YyError as u32;
+
+    pub const YY_UNDEF: u32 = TokenType::YyUndef as u32;
+
+    pub const START_EXPRESSION: u32 = TokenType::StartExpression as u32;
+
+    pub const START_BOXED_EXPRESSION: u32 = TokenType::StartBoxedExpression as u32;
+
+    pub const START_TEXTUAL_EXPRESSION: u32 = TokenType::StartTextualExpression as u32;
+
+    pub const START_TEXTUAL_EXPRESSIONS: u32 = TokenType::StartTextualExpressions as u32;
+
+    pub const START_UNARY_TESTS: u32 = TokenType::StartUnaryTests as u32;
+
+    pub const START_SIMPLE_EXPRESSION: u32 = TokenType::StartSimpleExpression as u32;
+
+    pub const START_SIMPLE_EXPRESSIONS: u32 = TokenType::StartSimpleExpressions as u32;
+
+    pub const START_SIMPLE_VALUE: u32 = TokenType::StartSimpleValue as u32;
+
+    pub const START_RANGE_LITERAL: u32 = TokenType::StartRangeLiteral as u32;
+
+    pub const AT: u32 = TokenType::At as u32;
+
+    pub const NOT: u32 = TokenType::Not as u32;
+
+    pub const COLON: u32 = TokenType::Colon as u32;
+
+    pub const COMMA: u32 = TokenType::Comma as u32;
+
+    pub const EVERY: u32 = TokenType::Every as u32;
+
+    pub const FOR: u32 = TokenType::For as u32;
+
+    pub const LEFT_BRACE: u32 = TokenType::LeftBrace as u32;
+
+    pub const NULL: u32 = TokenType::Null as u32;
+
+    pub const RIGHT_ARROW: u32 = TokenType::RightArrow as u32;
+
+    pub const OF: u32 = TokenType::Of as u32;
+
+    pub const LIST: u32 = TokenType::List as u32;
+
+    pub const RANGE: u32 = TokenType::Range as u32;
+
+    pub const CONTEXT: u32 = TokenType::Context as u32;
+
+    pub const THEN: u32 = TokenType::Then as u32;
+
+    pub const FUNCTION: u32 = TokenType::Function as u32;
+
+    pub const EXTERNAL: u32 = TokenType::External as u32;
+
+    pub const IF: u32 = TokenType::If as u32;
+
+    pub const RIGHT_BRACE: u32 = TokenType::RightBrace as u32;
+
+    pub const RETURN: u32 = TokenType::Return as u32;
+
+    pub const SOME: u32 = TokenType::Some as u32;
+
+    pub const NUMERIC: u32 = TokenType::Numeric as u32;
+
+    pub const STRING: u32 = TokenType::String as u32;
+
+    pub const BOOLEAN: u32 = TokenType::Boolean as u32;
+
+    pub const SATISFIES: u32 = TokenType::Satisfies as u32;
+
+    pub const ELSE: u32 = TokenType::Else as u32;
+
+    pub const OR: u32 = TokenType::Or as u32;
+
+    pub const AND: u32 = TokenType::And as u32;
+
+    pub const EQ: u32 = TokenType::Eq as u32;
+
+    pub const NE: u32 = TokenType::Ne as u32;
+
+    pub const LT: u32 = TokenType::Lt as u32;
+
+    pub const LE: u32 = TokenType::Le as u32;
+
+    pub const GT: u32 = TokenType::Gt as u32;
+
+    pub const GE: u32 = TokenType::Ge as u32;
+
+    pub const BETWEEN: u32 = TokenType::Between as u32;
+
+    pub const BETWEEN_AND: u32 = TokenType::BetweenAnd as u32;
+
+    pub const IN: u32 = TokenType::In as u32;
+
+    pub const MINUS: u32 = TokenType::Minus as u32;
+
+    pub const PLUS: u32 = TokenType::Plus as u32;
+
+    pub const MUL: u32 = TokenType::Mul as u32;
+
+    pub const DIV: u32 = TokenType::Div as u32;
+
+    pub const EXP: u32 = TokenType::Exp as u32;
+
+    pub const INSTANCE: u32 = TokenType::Instance as u32;
+
+    pub const NAME: u32 = TokenType::Name as u32;
+
+    pub const NAME_DATE_TIME: u32 = TokenType::NameDateTime as u32;
+
+    pub const BUILT_IN_TYPE_NAME: u32 = TokenType::BuiltInTypeName as u32;
+
+    pub const LEFT_PAREN: u32 = TokenType::LeftParen as u32;
+
+    pub const RIGHT_PAREN: u32 = TokenType::RightParen as u32;
+
+    pub const LEFT_BRACKET: u32 = TokenType::LeftBracket as u32;
+
+    pub const RIGHT_BRACKET: u32 = TokenType::RightBracket as u32;
+
+    pub const ELLIPSIS: u32 = TokenType::Ellipsis as u32;
+
+    pub const DOT: u32 = TokenType::Dot as u32;
+}
+
+// The number of every token type.
+// Ruled out, among others: a number other than the grammar's, though no code uses it.
 pub fn numbers() -> [u32; 63]
     ensures { result ≡ spec.all }
 {
-    [
-        TokenType::YY_EOF,
-        TokenType::YY_ERROR,
-        TokenType::YY_UNDEF,
-        TokenType::START_EXPRESSION,
-        TokenType::START_BOXED_EXPRESSION,
-        TokenType::START_TEXTUAL_EXPRESSION,
-        TokenType::START_TEXTUAL_EXPRESSIONS,
-        TokenType::START_UNARY_TESTS,
-        TokenType::START_SIMPLE_EXPRESSION,
-        TokenType::START_SIMPLE_EXPRESSIONS,
-        TokenType::START_SIMPLE_VALUE,
-        TokenType::START_RANGE_LITERAL,
-        TokenType::AT,
-        TokenType::NOT,
-        TokenType::COLON,
-        TokenType::COMMA,
-        TokenType::EVERY,
-        TokenType::FOR,
-        TokenType::LEFT_BRACE,
-        TokenType::NULL,
-        TokenType::RIGHT_ARROW,
-        TokenType::OF,
-        TokenType::LIST,
-        TokenType::RANGE,
-        TokenType::CONTEXT,
-        TokenType::THEN,
-        TokenType::FUNCTION,
-        TokenType::EXTERNAL,
-        TokenType::IF,
-        TokenType::RIGHT_BRACE,
-        TokenType::RETURN,
-        TokenType::SOME,
-        TokenType::NUMERIC,
-        TokenType::STRING,
-        TokenType::BOOLEAN,
-        TokenType::SATISFIES,
-        TokenType::ELSE,
-        TokenType::OR,
-        TokenType::AND,
-        TokenType::EQ,
-        TokenType::NE,
-        TokenType::LT,
-        TokenType::LE,
-        TokenType::GT,
-        TokenType::GE,
-        TokenType::BETWEEN,
-        TokenType::BETWEEN_AND,
-        TokenType::IN,
-        TokenType::MINUS,
-        TokenType::PLUS,
-        TokenType::MUL,
-        TokenType::DIV,
-        TokenType::EXP,
-        TokenType::INSTANCE,
-        TokenType::NAME,
-        TokenType::NAME_DATE_TIME,
-        TokenType::BUILT_IN_TYPE_NAME,
-        TokenType::LEFT_PAREN,
-        TokenType::RIGHT_PAREN,
-        TokenType::LEFT_BRACKET,
-        TokenType::RIGHT_BRACKET,
-        TokenType::ELLIPSIS,
-        TokenType::DOT,
-    ]
+    TokenType::ALL.map(u32::from)
 }
