@@ -35,18 +35,19 @@ use Rattle.lexer.specs.Token.{fuel, with_flags, other_cases, behind_words, cases
 use Rattle.lexer.specs.Shown.{window_of}
 use Rattle.lexer.specs.Numerals.{Numbered, digits_of}
 use Rattle.lexer.specs.Pieces.{Inside, Written, text_of, text_end, text_reach}
-use Rattle.words.specs.Keywords.{value_of, Matched, Says, reach_of}
+use Rattle.words.specs.Keywords.{value_of, Matched, Says}
 use Rattle.lexer.specs.FlagsOf.{flags_of}
 use Rattle.lexer.specs.Taken.{Gives, Takes, Taken}
 use Rattle.lexer.specs.declared.number.Number.{Number}
 use Rattle.lexer.specs.declared.string.Literal.{Literal}
 use Rattle.lexer.specs.declared.string.Literal.TheVariants.{Chars as StringChars, LineEnds, TextEnds, Broken}
 use Rattle.words.specs.declared.keywords.Match.{Match}
-use Rattle.words.specs.declared.keywords.Match.TheVariants.{Found, None}
+use Rattle.words.specs.declared.keywords.Found.{Found}
+use Rattle.std.specs.Prelude.{None, Some}
 use Rattle.lexer.specs.declared.flags.Flags.{Flags as CodeFlags}
 use Rattle.lexer.specs.declared.token.Outcome.{Outcome}
 use Rattle.lexer.specs.declared.token.Read.{Read as Answer}
-use Rattle.lexer.specs.declared.token.Read.TheVariants.{Boolean, Numeric, Chars, Refused}
+use Rattle.lexer.specs.declared.token.Read.TheVariants.{Numeric, Chars, Refused}
 use Rattle.lexer.proofs.NumberFacts.{numbers_digit, numbers_point}
 use Rattle.lexer.proofs.TokenFacts.{shown-holds}
 use Rattle.lexer.proofs.WindowLaws.{window-seen}
@@ -62,23 +63,6 @@ takes_as {t} {q} e {o} {o'} {r} g = subst (λ x. Takes t q x o r o') (sym e) g
 pub takes_later : {t : List ℕ} {m : Look spec.Outcome} {o o' : List ℕ} {r : Outcome} → Takes t 0 m o r o' → (q : ℕ) {to : ℕ} → to ≡ max q r.reach
     → Takes t q m o (record { read = r.read; used = r.used; flags = r.flags; reach = to }) o'
 takes_later {t} {m} g q {to} e = record { read = g.read; sees = sees_from (begins t q m) g.sees to (sym e); shown = g.shown; left = g.left }
-
--- Words and symbols.
-module _ (k : ℕ) (v : ℕ) (u : ℕ) (g : CodeFlags) (f : Flags) (reach : ℕ) (h : flags_of g ≡ after_word k f) where
-  abbrev OfRow : Answer → Type 0
-  OfRow x = (o : List ℕ) → Gives (outcome (token k (value_of v)) u (after_word k f)) reach o (record { read = x; used = u; flags = g; reach = reach }) o
-
-  pub row_false : eqb 1 v ≡ true → OfRow (Boolean false)
-  unfolding value_of
-  row_false e o = record { read = rw e; used = refl; flags = h; looked = refl; left = rw e refl }
-
-  pub row_true : eqb 1 v ≡ false → eqb 2 v ≡ true → OfRow (Boolean true)
-  unfolding value_of
-  row_true d e o = record { read = rw (d, e); used = refl; flags = h; looked = refl; left = rw (d, e) refl }
-
-  pub row_plain : eqb 1 v ≡ false → eqb 2 v ≡ false → {r : Outcome} → ((o : List ℕ) → Gives (outcome (token k nothing) u (flags_of g)) reach o r o) → (o : List ℕ) → Gives (outcome (token k (value_of v)) u (after_word k f)) reach o r o
-  unfolding value_of
-  row_plain d e w o = let z = w o in record { read = rw (d, e) z.read; used = z.used; flags = z.flags ∙ h; looked = z.looked; left = rw (d, e) z.left }
 
 -- Numbers.
 zero_length : (xs : List ℕ) {n k : ℕ} → n ≡ length xs → k ≡ max n 1 → k ≡ length (or_zero xs)
@@ -202,16 +186,13 @@ takes_done t q c g = takes_given (finds (begins t q (done c))) g
 
 -- A row that fits gives its token; if none does, what is read otherwise is read.
 module _ {t w : List ℕ} {i q : ℕ} {f : Flags} {m : Match} where
-  pub row-taken : (rows : List Row) → Matched rows t q i w f m → (otherwise : Look spec.Outcome) {k v e to : ℕ} → m ≡ Found k v e to → {o : List ℕ} {r : Outcome}
-      → ((u : List ℕ) → Gives (outcome (token k (value_of v)) e (after_word k f)) to u r u) → Takes t q (first_of fuel rows f w i otherwise) o r o
-  row-taken rows g otherwise p {o} h = takes_given (subst (Says rows t q i w f) p g.says otherwise) (h o)
+  pub row-taken : (rows : List Row) → Matched rows t q i w f m → (otherwise : Look spec.Outcome) {d : Found} → m.found ≡ Some d → {o : List ℕ} {r : Outcome}
+      → ((u : List ℕ) → Gives (outcome (token d.kind (value_of d.value)) d.end (after_word d.kind f)) m.reach u r u) → Takes t q (first_of fuel rows f w i otherwise) o r o
+  row-taken rows g otherwise p {o} h = takes_given (subst (λ x. Says rows t q i w f x m.reach) p g.says otherwise) (h o)
 
-  pub row_missed : (rows : List Row) → Matched rows t q i w f m → {otherwise : Look spec.Outcome} {to : ℕ} → m ≡ None to → {o o' : List ℕ} {r : Outcome}
-      → Takes t to otherwise o r o' → Takes t q (first_of fuel rows f w i otherwise) o r o'
-  row_missed rows g {otherwise} p x = record { read = x.read; sees = goes_on_lem (subst (Says rows t q i w f) p g.says otherwise) x.sees; shown = x.shown; left = x.left }
-
-  pub row_reach : (rows : List Row) → Matched rows t q i w f m → {to : ℕ} → m ≡ None to → to ≤ length t + 12
-  row_reach rows g p = subst (λ x. reach_of x ≤ length t + 12) p g.near
+  pub row_missed : (rows : List Row) → Matched rows t q i w f m → {otherwise : Look spec.Outcome} → m.found ≡ None → {o o' : List ℕ} {r : Outcome}
+      → Takes t m.reach otherwise o r o' → Takes t q (first_of fuel rows f w i otherwise) o r o'
+  row_missed rows g {otherwise} p x = record { read = x.read; sees = goes_on_lem (subst (λ d. Says rows t q i w f d m.reach) p g.says otherwise) x.sees; shown = x.shown; left = x.left }
 
 -- The whole token: whitespace and comments, the window, its cases; `unary_tests` is cleared.
 module _ (is_name : List ℕ → Bool) (f : Flags) {t : List ℕ} {i : ℕ} (s : Reads t (skip fuel) i (i + 2)) where

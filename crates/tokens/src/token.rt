@@ -29,7 +29,7 @@ use lexer::window;
 use scope::scope::{Scope, Slot};
 use text::chars::Char;
 use words::keywords;
-use words::keywords::Match;
+use words::keywords::Found;
 
 // A token without a value.
 fn plain(kind: u32, used: usize, flags: Flags, reach: usize) -> Outcome
@@ -43,28 +43,20 @@ fn plain(kind: u32, used: usize, flags: Flags, reach: usize) -> Outcome
     }
 }
 
-// A word or symbol of the tables, with its value by number.
-fn of_row(kind: u32, value: u32, used: usize, flags: Flags, reach: usize) -> Outcome
-    ensures { (o : List ℕ) → Gives (spec.outcome (spec.token kind (value_of value)) used (after_word kind (flags_of flags))) reach o result o }
+// The word or symbol that was found.
+fn of_word(found: Found, flags: Flags, reach: usize) -> Outcome
+    ensures { (o : List ℕ) → Gives (spec.outcome (spec.token found.kind (value_of found.value)) found.end (after_word found.kind (flags_of flags))) reach o result o }
 {
-    let after = keywords::after_word(kind, flags);
-    if keywords::FALSE == value {
-        return Outcome {
-            read: Read::Boolean(false),
-            used,
-            flags: after,
-            reach,
-        };
+    let read = match found.value {
+        Some(truth) => Read::Boolean(truth),
+        None => Read::Plain(found.kind),
+    };
+    Outcome {
+        read,
+        used: found.end,
+        flags: keywords::after_word(found.kind, flags),
+        reach,
     }
-    if keywords::TRUE == value {
-        return Outcome {
-            read: Read::Boolean(true),
-            used,
-            flags: after,
-            reach,
-        };
-    }
-    plain(kind, used, after, reach)
 }
 
 // The number at i, its digits written out; q is the reach so far.
@@ -210,10 +202,10 @@ fn behind_words(
         return string_at(rest, i, q, flags, out);
     }
     let m = keywords::first_symbol(rest, i, c, flags, q);
-    match m {
-        Match::Found(kind, value, end, reach) => of_row(kind, value, end, flags, reach),
-        Match::None(reach) => other_cases(
-            rest, i, c, reach, flags, s, slots, names, cap, out, scratch,
+    match m.found {
+        Some(found) => of_word(found, flags, m.reach),
+        None => other_cases(
+            rest, i, c, m.reach, flags, s, slots, names, cap, out, scratch,
         ),
     }
 }
@@ -236,10 +228,10 @@ fn by_window(
 {
     let c = window::shown_at(rest, i);
     let m = keywords::first_word(rest, i, c, flags);
-    match m {
-        Match::Found(kind, value, end, reach) => of_row(kind, value, end, flags, reach),
-        Match::None(reach) => behind_words(
-            rest, i, c, reach, flags, s, slots, names, cap, out, scratch,
+    match m.found {
+        Some(found) => of_word(found, flags, m.reach),
+        None => behind_words(
+            rest, i, c, m.reach, flags, s, slots, names, cap, out, scratch,
         ),
     }
 }

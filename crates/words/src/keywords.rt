@@ -1,49 +1,66 @@
 // Words and symbols: words are rows of numbers, tried on the window of twelve characters, which goes by value, in the source's order; a symbol is told by its characters.
-ghost use Rattle.std.specs.Prelude.{◌≡◌, cond, true, [], ◌∷◌, ◌+◌, ◌≤◌, ◌<◌, length, get_or, take};
+ghost use Rattle.std.specs.Prelude.{◌≡◌, ◌==◌, cond, true, [], ◌∷◌, ◌+◌, ◌≤◌, ◌<◌, length, get_or, take};
+ghost use Rattle.std.specs.List.{list_all, zip};
 ghost use Rattle.reading.specs.Look.{cell_at};
 ghost use Rattle.reading.specs.Cells.{holds};
 ghost use Rattle.text.specs.Limits.{max_chars};
 ghost use Rattle.lexer.specs.Window as spec;
 ghost use Rattle.lexer.specs.Shown.{window_of};
 ghost use Rattle.lexer.specs.FlagsOf.{flags_of};
-ghost use Rattle.words.specs.Keywords.{class_of, follow_of, when_of, rows_of, Lettered, are_rows, are_linked, place_of, letter_words, initials, pairs, Sign, sign_match, Followed, Attempt, match_of, Matched};
+ghost use Rattle.words.specs.Keywords.{class_of, follow_of, when_of, row_of, rows_of, Lettered, are_rows, links_of, links_from, place_from, letter_words, initials, pairs, sign_of, sign_found, Followed, Matched};
 
 use lexer::flags::Flags;
 use lexer::token_type::TokenType;
 use lexer::{look, window};
 use text::chars::Char;
 
-// What must follow a word: in the window's next place, or behind optional whitespace.
-const SPACE: u32 = 1;
-
-const SEPARATOR: u32 = 2;
-
-const SPACE_OR_PAREN: u32 = 3;
-
-const LESS: u32 = 4;
-
-const PAREN_OR_LESS: u32 = 5;
+// What must follow a word: in the window's next place or, of the last two, behind optional whitespace.
+#[derive(Clone, Copy)]
+enum Follower {
+    Space,
+    Separator,
+    SpaceOrParen,
+    Less,
+    ParenOrLess,
+}
 
 // When a word is taken: always, or by a flag.
-const ALWAYS: u32 = 0;
+#[derive(Clone, Copy)]
+enum When {
+    Always,
+    OutsideBetween,
+    InsideBetween,
+    InUnaryTests,
+}
 
-const NOT_BETWEEN: u32 = 1;
+// A word beside its letters: how many they are, what must follow, when it is taken, its type and value, and the next word that begins as it does.
+#[derive(Clone, Copy)]
+struct Word {
+    letters: usize,
+    follower: Follower,
+    when: When,
+    kind: u32,
+    value: Option<bool>,
+    next: Option<usize>,
+}
 
-const BETWEEN: u32 = 2;
+macro_rules! word {
+    ($letters:literal, $follower:ident, $when:ident, $kind:ident, $value:expr, $next:expr) => {
+        Word {
+            letters: $letters,
+            follower: Follower::$follower,
+            when: When::$when,
+            kind: TokenType::$kind,
+            value: $value,
+            next: $next,
+        }
+    };
+}
 
-const UNARY_TESTS: u32 = 3;
-
-// A token's value.
-pub const NOTHING: u32 = 0;
-
-pub const FALSE: u32 = 1;
-
-pub const TRUE: u32 = 2;
-
-// Letters, with spaces behind them; and of each word the number of its letters, what must follow, when it is taken, type, value, and the next word that begins as it does.
 const COUNT: usize = 24;
 
-const WORDS: [[u8; 9]; COUNT] = [
+// The letters, with spaces behind them.
+static LETTERS: [[u8; 9]; COUNT] = [
     *b"satisfies",
     *b"external ",
     *b"function ",
@@ -70,277 +87,257 @@ const WORDS: [[u8; 9]; COUNT] = [
     *b"or       ",
 ];
 
-const WORD_ROWS: [[u32; 6]; COUNT] = [
-    [9, SPACE, ALWAYS, TokenType::SATISFIES, NOTHING, 13],
-    [8, SPACE, ALWAYS, TokenType::EXTERNAL, NOTHING, 7],
-    [8, PAREN_OR_LESS, ALWAYS, TokenType::FUNCTION, NOTHING, 8],
-    [8, SPACE, ALWAYS, TokenType::INSTANCE, NOTHING, 20],
-    [7, SPACE, ALWAYS, TokenType::BETWEEN, NOTHING, 24],
-    [7, LESS, ALWAYS, TokenType::CONTEXT, NOTHING, 24],
-    [6, SPACE, ALWAYS, TokenType::RETURN, NOTHING, 9],
-    [5, SPACE, ALWAYS, TokenType::EVERY, NOTHING, 11],
-    [5, SEPARATOR, ALWAYS, TokenType::BOOLEAN, FALSE, 18],
-    [5, LESS, ALWAYS, TokenType::RANGE, NOTHING, 24],
-    [4, SEPARATOR, ALWAYS, TokenType::NULL, NOTHING, 19],
-    [4, SPACE, ALWAYS, TokenType::ELSE, NOTHING, 24],
-    [4, LESS, ALWAYS, TokenType::LIST, NOTHING, 24],
-    [4, SPACE, ALWAYS, TokenType::SOME, NOTHING, 24],
-    [4, SPACE, ALWAYS, TokenType::THEN, NOTHING, 15],
-    [4, SEPARATOR, ALWAYS, TokenType::BOOLEAN, TRUE, 24],
-    [3, SPACE, NOT_BETWEEN, TokenType::AND, NOTHING, 17],
-    [3, SPACE, BETWEEN, TokenType::BETWEEN_AND, NOTHING, 24],
-    [3, SPACE, ALWAYS, TokenType::FOR, NOTHING, 24],
-    [3, SPACE_OR_PAREN, UNARY_TESTS, TokenType::NOT, NOTHING, 24],
-    [2, SPACE, ALWAYS, TokenType::IF, NOTHING, 21],
-    [2, SPACE, ALWAYS, TokenType::IN, NOTHING, 24],
-    [2, SPACE, ALWAYS, TokenType::OF, NOTHING, 23],
-    [2, SPACE, ALWAYS, TokenType::OR, NOTHING, 24],
+static WORDS: [Word; COUNT] = [
+    word!(9, Space, Always, SATISFIES, None, Some(13)),
+    word!(8, Space, Always, EXTERNAL, None, Some(7)),
+    word!(8, ParenOrLess, Always, FUNCTION, None, Some(8)),
+    word!(8, Space, Always, INSTANCE, None, Some(20)),
+    word!(7, Space, Always, BETWEEN, None, None),
+    word!(7, Less, Always, CONTEXT, None, None),
+    word!(6, Space, Always, RETURN, None, Some(9)),
+    word!(5, Space, Always, EVERY, None, Some(11)),
+    word!(5, Separator, Always, BOOLEAN, Some(false), Some(18)),
+    word!(5, Less, Always, RANGE, None, None),
+    word!(4, Separator, Always, NULL, None, Some(19)),
+    word!(4, Space, Always, ELSE, None, None),
+    word!(4, Less, Always, LIST, None, None),
+    word!(4, Space, Always, SOME, None, None),
+    word!(4, Space, Always, THEN, None, Some(15)),
+    word!(4, Separator, Always, BOOLEAN, Some(true), None),
+    word!(3, Space, OutsideBetween, AND, None, Some(17)),
+    word!(3, Space, InsideBetween, BETWEEN_AND, None, None),
+    word!(3, Space, Always, FOR, None, None),
+    word!(3, SpaceOrParen, InUnaryTests, NOT, None, None),
+    word!(2, Space, Always, IF, None, Some(21)),
+    word!(2, Space, Always, IN, None, None),
+    word!(2, Space, Always, OF, None, Some(23)),
+    word!(2, Space, Always, OR, None, None),
 ];
 
-// The first word that begins with x, or how many they are.
-fn first_row(x: u32) -> usize
-    ensures { result ≡ place_of initials x }
+// The first word that begins with x.
+#[tactic(auto, using(std::proofs::lemmas::Bool::Decides::nat_tests), unfolding(crate::specs::Keywords::place_from, crate::specs::Keywords::initials))]
+fn first_row(x: u32) -> Option<usize>
+    ensures { result ≡ place_from 0 initials x }
 {
     match x {
-        Char::SMALL_A => 16,
-        Char::SMALL_B => 4,
-        Char::SMALL_C => 5,
-        Char::SMALL_E => 1,
-        Char::SMALL_F => 2,
-        Char::SMALL_I => 3,
-        Char::SMALL_L => 12,
-        Char::SMALL_N => 10,
-        Char::SMALL_O => 22,
-        Char::SMALL_R => 6,
-        Char::SMALL_S => 0,
-        Char::SMALL_T => 14,
-        _ => COUNT,
+        Char::SMALL_A => Some(16),
+        Char::SMALL_B => Some(4),
+        Char::SMALL_C => Some(5),
+        Char::SMALL_E => Some(1),
+        Char::SMALL_F => Some(2),
+        Char::SMALL_I => Some(3),
+        Char::SMALL_L => Some(12),
+        Char::SMALL_N => Some(10),
+        Char::SMALL_O => Some(22),
+        Char::SMALL_R => Some(6),
+        Char::SMALL_S => Some(0),
+        Char::SMALL_T => Some(14),
+        _ => None,
     }
 }
 
-// The type of the symbol that c is, 0 where it is none.
-fn symbol(c: u32) -> u32
-    ensures { Sign spec.symbols (c ∷ []) result }
+// The type of the symbol that c is.
+#[tactic(auto, using(std::proofs::lemmas::Bool::Decides::nat_tests), unfolding(crate::specs::Keywords::sign_of, lexer::specs::Window::symbols))]
+fn symbol(c: u32) -> Option<u32>
+    ensures { result ≡ sign_of spec.symbols (c ∷ []) }
 {
     match c {
-        Char::DOT => TokenType::DOT,
-        Char::COMMA => TokenType::COMMA,
-        Char::COLON => TokenType::COLON,
-        Char::PLUS => TokenType::PLUS,
-        Char::MINUS => TokenType::MINUS,
-        Char::STAR => TokenType::MUL,
-        Char::SLASH => TokenType::DIV,
-        Char::EQUAL => TokenType::EQ,
-        Char::LESS => TokenType::LT,
-        Char::GREATER => TokenType::GT,
-        Char::LEFT_PAREN => TokenType::LEFT_PAREN,
-        Char::RIGHT_PAREN => TokenType::RIGHT_PAREN,
-        Char::LEFT_BRACKET => TokenType::LEFT_BRACKET,
-        Char::RIGHT_BRACKET => TokenType::RIGHT_BRACKET,
-        Char::LEFT_BRACE => TokenType::LEFT_BRACE,
-        Char::RIGHT_BRACE => TokenType::RIGHT_BRACE,
-        Char::AT => TokenType::AT,
-        _ => 0,
+        Char::DOT => Some(TokenType::DOT),
+        Char::COMMA => Some(TokenType::COMMA),
+        Char::COLON => Some(TokenType::COLON),
+        Char::PLUS => Some(TokenType::PLUS),
+        Char::MINUS => Some(TokenType::MINUS),
+        Char::STAR => Some(TokenType::MUL),
+        Char::SLASH => Some(TokenType::DIV),
+        Char::EQUAL => Some(TokenType::EQ),
+        Char::LESS => Some(TokenType::LT),
+        Char::GREATER => Some(TokenType::GT),
+        Char::LEFT_PAREN => Some(TokenType::LEFT_PAREN),
+        Char::RIGHT_PAREN => Some(TokenType::RIGHT_PAREN),
+        Char::LEFT_BRACKET => Some(TokenType::LEFT_BRACKET),
+        Char::RIGHT_BRACKET => Some(TokenType::RIGHT_BRACKET),
+        Char::LEFT_BRACE => Some(TokenType::LEFT_BRACE),
+        Char::RIGHT_BRACE => Some(TokenType::RIGHT_BRACE),
+        Char::AT => Some(TokenType::AT),
+        _ => None,
     }
 }
 
-// A type where its symbol stands, else 0.
-fn only(hit: bool, kind: u32) -> u32
-    ensures { result ≡ cond hit kind 0 }
+// The type of the symbol that c and d are.
+#[tactic(auto, using(std::proofs::lemmas::Bool::Decides::nat_tests), unfolding(crate::specs::Keywords::sign_of, crate::specs::Keywords::pairs))]
+fn pair(c: u32, d: u32) -> Option<u32>
+    ensures { result ≡ sign_of pairs (c ∷ d ∷ []) }
 {
-    if hit {
-        return kind;
+    match (c, d) {
+        (Char::DOT, Char::DOT) => Some(TokenType::ELLIPSIS),
+        (Char::STAR, Char::STAR) => Some(TokenType::EXP),
+        (Char::EXCLAMATION_MARK, Char::EQUAL) => Some(TokenType::NE),
+        (Char::LESS, Char::EQUAL) => Some(TokenType::LE),
+        (Char::GREATER, Char::EQUAL) => Some(TokenType::GE),
+        (Char::MINUS, Char::GREATER) => Some(TokenType::RIGHT_ARROW),
+        _ => None,
     }
-    0
 }
 
-// The type of the symbol that c and d are, 0 where they are none.
-fn pair(c: u32, d: u32) -> u32
-    ensures { Sign pairs (c ∷ d ∷ []) result }
+// Whether c may follow a word.
+fn is_follower(follower: Follower, c: u32) -> bool
+    ensures { result ≡ class_of follower c }
 {
-    match c {
-        Char::DOT => only(Char::DOT == d, TokenType::ELLIPSIS),
-        Char::STAR => only(Char::STAR == d, TokenType::EXP),
-        Char::EXCLAMATION_MARK => only(Char::EQUAL == d, TokenType::NE),
-        Char::LESS => only(Char::EQUAL == d, TokenType::LE),
-        Char::GREATER => only(Char::EQUAL == d, TokenType::GE),
-        Char::MINUS => only(Char::GREATER == d, TokenType::RIGHT_ARROW),
-        _ => 0,
+    match follower {
+        Follower::Space => c == Char::SPACE,
+        Follower::Separator => text::classes::is_separator(c),
+        Follower::SpaceOrParen => matches!(c, Char::SPACE | Char::LEFT_PAREN),
+        Follower::Less => c == Char::LESS,
+        Follower::ParenOrLess => matches!(c, Char::LEFT_PAREN | Char::LESS),
     }
 }
 
-// Whether c may follow a word, by the number of what must.
-fn is_follower(follow: u32, c: u32) -> bool
-    ensures { result ≡ class_of follow c }
+fn follower_at(rest: &[u32], j: usize, follower: Follower) -> bool
+    ensures { result ≡ holds (class_of follower) (cell_at rest.now j) }
 {
-    if SPACE == follow {
-        return Char::SPACE == c;
-    }
-    if SEPARATOR == follow {
-        return text::classes::is_separator(c);
-    }
-    if SPACE_OR_PAREN == follow {
-        return (Char::SPACE == c) | (Char::LEFT_PAREN == c);
-    }
-    if LESS == follow {
-        return Char::LESS == c;
-    }
-    (Char::LEFT_PAREN == c) | (Char::LESS == c)
+    j < rest.len() && is_follower(follower, rest[j])
 }
 
-fn follower_at(rest: &[u32], j: usize, follow: u32) -> bool
-    ensures { result ≡ holds (class_of follow) (cell_at rest.now j) }
-{
-    if rest.len() <= j {
-        return false;
-    }
-    is_follower(follow, rest[j])
-}
-
-// Whether a row fits, and the reach then.
+// Whether what must follow stands behind a word, and the reach.
 #[derive(Clone, Copy)]
-pub struct Tried {
-    pub hit: bool,
-    pub reach: usize,
+struct Behind {
+    stands: bool,
+    reach: usize,
 }
 
 // Whether what must follow stands behind a word of n letters: in the window w, or in the text behind the whitespace from i + n on.
-fn follows(w: [u32; 12], rest: &[u32], i: usize, n: usize, follow: u32, reach: usize) -> Tried
+fn follows(
+    follower: Follower,
+    w: [u32; 12],
+    rest: &[u32],
+    i: usize,
+    n: usize,
+    reach: usize,
+) -> Behind
     requires { (length rest.now ≤ max_chars) × (n < 12) × (i + n ≤ length rest.now) × (reach ≤ length rest.now + 12) }
-    ensures { Followed rest.now reach (follow_of follow) w n i result.hit result.reach }
+    ensures { Followed rest.now reach (follow_of follower) w n i result.stands result.reach }
 {
-    if follow < LESS {
-        let hit = is_follower(follow, w[n]);
-        return Tried { hit, reach };
+    match follower {
+        Follower::Less | Follower::ParenOrLess => {
+            let j = look::blanks(rest, i + n);
+            let far = reach.max(j + 1);
+            Behind {
+                stands: follower_at(rest, j, follower),
+                reach: far,
+            }
+        }
+        _ => Behind {
+            stands: is_follower(follower, w[n]),
+            reach,
+        },
     }
-    let j = look::blanks(rest, i + n);
-    let hit = follower_at(rest, j, follow);
-    let far = look::larger(reach, j + 1);
-    Tried { hit, reach: far }
 }
 
 // Whether the state is one that a word is taken in.
-fn is_taken(when: u32, flags: Flags) -> bool
+fn is_taken(when: When, flags: Flags) -> bool
     ensures { result ≡ spec.taken (when_of when) (flags_of flags) }
 {
-    if NOT_BETWEEN == when {
-        return !flags.between;
+    match when {
+        When::Always => true,
+        When::OutsideBetween => !flags.between,
+        When::InsideBetween => flags.between,
+        When::InUnaryTests => flags.unary_tests,
     }
-    if BETWEEN == when {
-        return flags.between;
-    }
-    if UNARY_TESTS == when {
-        return flags.unary_tests;
-    }
-    true
 }
 
-// A letter as a cell.
-fn wide(b: u8) -> u32
-    ensures { result ≡ b }
+// Whether the letters lead the window.
+fn leads(letters: &[u8], w: [u32; 12]) -> bool
+    ensures { result ≡ list_all (λ p. p.0 == p.1) (zip letters.now w) }
 {
-    b as u32
+    letters
+        .iter()
+        .zip(w.iter())
+        .all(|(letter, c)| u32::from(*letter) == *c)
 }
 
-// Whether the first n letters of word k lead the window.
-fn leads(words: &[[u8; 9]], k: usize, n: usize, w: [u32; 12]) -> bool
-    requires { (k < length words.now) × (n ≤ 9) × (n ≤ length (get_or words.now k [])) }
-    ensures { result ≡ spec.leads (take n (get_or words.now k [])) w }
-{
-    let mut j: usize = 0;
-    while j < n {
-        if wide(words[k][j]) != w[j] {
-            return false;
-        }
-        j += 1;
-    }
-    true
+// A word or symbol that was found: its type, its value and its end.
+#[derive(Clone, Copy)]
+pub struct Found {
+    pub kind: u32,
+    pub value: Option<bool>,
+    pub end: usize,
 }
 
-// Whether row k fits the window w at i.
-fn try_row(
-    words: &[[u8; 9]],
-    rows: &[[u32; 6]],
-    k: usize,
+// What was found, and the reach of the search.
+#[derive(Clone, Copy)]
+pub struct Match {
+    pub found: Option<Found>,
+    pub reach: usize,
+}
+
+// The word, if it fits the window w at i.
+fn try_word(
+    letters: &[u8; 9],
+    word: Word,
     w: [u32; 12],
     rest: &[u32],
     i: usize,
     flags: Flags,
     reach: usize,
-) -> Tried
-    requires { (k < length words.now) × (k < length rows.now) × (Lettered (get_or words.now k []) (get_or rows.now k [])) × (w ≡ window_of 12 rest.now i) × (length rest.now ≤ max_chars) × (i ≤ length rest.now) × (reach ≤ length rest.now + 12) }
-    ensures { Attempt rest.now reach (get_or words.now k []) (get_or rows.now k []) (flags_of flags) w i result.hit result.reach }
+) -> Match
+    requires { Lettered letters.now word.letters × (w ≡ window_of 12 rest.now i) × (length rest.now ≤ max_chars) × (i ≤ length rest.now) × (reach ≤ length rest.now + 12) }
+    ensures { Matched (row_of letters.now word ∷ []) rest.now reach i w (flags_of flags) result }
 {
-    if !is_taken(rows[k][2], flags) {
-        return Tried { hit: false, reach };
+    let n = word.letters;
+    if !is_taken(word.when, flags) || !leads(&letters[..n], w) {
+        return Match { found: None, reach };
     }
-    let n = scope::compare::wide(rows[k][0]);
-    if !leads(words, k, n, w) {
-        return Tried { hit: false, reach };
+    let behind = follows(word.follower, w, rest, i, n, reach);
+    let found = Found {
+        kind: word.kind,
+        value: word.value,
+        end: i + n,
+    };
+    Match {
+        found: behind.stands.then_some(found),
+        reach: behind.reach,
     }
-    follows(w, rest, i, n, rows[k][1], reach)
 }
 
-// Found: type, value (by its number above), end and reach of the word. None: the reach.
-#[derive(Clone, Copy)]
-pub enum Match {
-    Found(u32, u32, usize, usize),
-    None(usize),
-}
-
-// The answer if row k fits at i.
-fn answer(rows: &[[u32; 6]], k: usize, i: usize, reach: usize) -> Match
-    requires { (k < length rows.now) × (i ≤ max_chars) × (get_or (get_or rows.now k []) 0 0 ≤ 9) }
-    ensures { result ≡ match_of (get_or rows.now k []) i reach }
-{
-    let n = scope::compare::wide(rows[k][0]);
-    Match::Found(rows[k][3], rows[k][4], i + n, reach)
-}
-
-// The first row that fits the window w at i, where `first` is the first that begins as it does and r the reach so far.
+// The first word that fits the window w at i, where `first` is the first that begins as it does and r the reach so far.
 fn first_of(
-    words: &[[u8; 9]],
-    rows: &[[u32; 6]],
-    first: usize,
+    letters: &[[u8; 9]],
+    words: &[Word],
+    first: Option<usize>,
     w: [u32; 12],
     rest: &[u32],
     i: usize,
     flags: Flags,
     r: usize,
 ) -> Match
-    requires { (are_rows words.now rows.now ≡ true) × (are_linked words.now rows.now ≡ true) × (first ≡ place_of words.now (spec.shown (cell_at rest.now i))) × (w ≡ window_of 12 rest.now i) × (length rest.now ≤ max_chars) × (i ≤ length rest.now) × (r ≤ length rest.now + 12) }
-    ensures { Matched (rows_of words.now rows.now) rest.now r i w (flags_of flags) result }
+    requires { (are_rows letters.now words.now ≡ true) × (links_of words.now ≡ links_from 0 letters.now) × (first ≡ place_from 0 letters.now (spec.shown (cell_at rest.now i))) × (w ≡ window_of 12 rest.now i) × (length rest.now ≤ max_chars) × (i ≤ length rest.now) × (r ≤ length rest.now + 12) }
+    ensures { Matched (rows_of letters.now words.now) rest.now r i w (flags_of flags) result }
 {
     let mut reach = r;
-    let mut k = first;
-    while k < words.len() {
-        let t = try_row(words, rows, k, w, rest, i, flags, reach);
-        reach = t.reach;
-        if t.hit {
-            return answer(rows, k, i, reach);
+    let mut next = first;
+    while let Some(k) = next {
+        let word = words[k];
+        let m = try_word(&letters[k], word, w, rest, i, flags, reach);
+        if m.found.is_some() {
+            return m;
         }
-        k = scope::compare::wide(rows[k][5]);
+        reach = m.reach;
+        next = word.next;
     }
-    Match::None(reach)
+    Match { found: None, reach }
 }
 
-// The answer for a symbol of n characters at i by its type, 0 where none stands there.
-fn of_sign(kind: u32, n: usize, i: usize, reach: usize) -> Match
+// The symbol of n characters at i, by its type.
+fn of_sign(kind: Option<u32>, n: usize, i: usize, reach: usize) -> Match
     requires { (i ≤ max_chars) × (n ≤ 2) }
-    ensures { result ≡ sign_match kind n i reach }
+    ensures { (result.found ≡ sign_found kind (i + n)) × (result.reach ≡ reach) }
 {
-    if 0 == kind {
-        return Match::None(reach);
-    }
-    Match::Found(kind, NOTHING, i + n, reach)
-}
-
-// The first word of letters that fits the window w at i, where `first` is the first that begins as it does. The tables are not static data: who takes them copies them, so that this is asked only where there is one.
-fn of_letters(first: usize, w: [u32; 12], rest: &[u32], i: usize, flags: Flags) -> Match
-    requires { (length rest.now ≤ max_chars) × (i ≤ length rest.now) × (first ≡ place_of initials (spec.shown (cell_at rest.now i))) × (w ≡ window_of 12 rest.now i) }
-    ensures { Matched letter_words rest.now (i + 12) i w (flags_of flags) result }
-{
-    first_of(&WORDS, &WORD_ROWS, first, w, rest, i, flags, i + 12)
+    let found = kind.map(|kind| Found {
+        kind,
+        value: None,
+        end: i + n,
+    });
+    Match { found, reach }
 }
 
 // The first word or symbol of two characters that fits the window at i, which has been looked at and begins with c.
@@ -349,14 +346,14 @@ pub fn first_word(rest: &[u32], i: usize, c: u32, flags: Flags) -> Match
     requires { (length rest.now ≤ max_chars) × (i ≤ length rest.now) × (c ≡ spec.shown (cell_at rest.now i)) }
     ensures { Matched spec.words rest.now (i + 12) i (window_of 12 rest.now i) (flags_of flags) result }
 {
-    let k = first_row(c);
-    if k < COUNT {
+    let reach = i + 12;
+    let first = first_row(c);
+    if first.is_some() {
         let w = window::window(rest, i);
-        return of_letters(k, w, rest, i, flags);
+        return first_of(&LETTERS, &WORDS, first, w, rest, i, flags, reach);
     }
     let d = window::shown_at(rest, i + 1);
-    let kind = pair(c, d);
-    of_sign(kind, 2, i, i + 12)
+    of_sign(pair(c, d), 2, i, reach)
 }
 
 // The symbol of one character that fits the window at i, which begins with c; r is the reach that the words have made.
@@ -365,8 +362,7 @@ pub fn first_symbol(rest: &[u32], i: usize, c: u32, flags: Flags, r: usize) -> M
     requires { (length rest.now ≤ max_chars) × (i ≤ length rest.now) × (c ≡ spec.shown (cell_at rest.now i)) × (r ≤ length rest.now + 12) }
     ensures { Matched spec.symbols rest.now r i (window_of 12 rest.now i) (flags_of flags) result }
 {
-    let kind = symbol(c);
-    of_sign(kind, 1, i, r)
+    of_sign(symbol(c), 1, i, r)
 }
 
 // The flags after a word of this type: BetweenAnd clears `between`.
@@ -376,11 +372,8 @@ pub fn after_word(kind: u32, flags: Flags) -> Flags
 {
     if kind == TokenType::BETWEEN_AND {
         return Flags {
-            unary_tests: flags.unary_tests,
             between: false,
-            type_name: flags.type_name,
-            till_in: flags.till_in,
-            after_dot: flags.after_dot,
+            ..flags
         };
     }
     flags

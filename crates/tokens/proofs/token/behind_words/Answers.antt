@@ -26,10 +26,10 @@ returns-then-c-eq-QUOTE c =
     let x = c.args in
     (takes_as (case_quote (flags_of x.flags) (is_name (scope_of (lent x.s x.slots.now x.names.now))) x.rest.now x.i c.requires.2 c.begins_with_point.ensures c.if-begins_with_point.false (eq-eqb 0x22 _ c.if-c-eq-QUOTE.true)) c.string_at.ensures, refl)
 
-pub returns-in-Found : goal.returns-in-Found
-returns-in-Found c =
+pub returns-in-Some : goal.returns-in-Some
+returns-in-Some c =
     let x = c.args in
-    (takes_as (case-symbol (flags_of x.flags) (is_name (scope_of (lent x.s x.slots.now x.names.now))) x.rest.now x.i c.requires.2 c.begins_with_point.ensures c.if-begins_with_point.false (ne_eqb 0x22 _ c.if-c-eq-QUOTE.false)) (row-taken symbols c.first_symbol-m.ensures _ c.in-Found.is c.of_row.ensures), refl)
+    (takes_as (case-symbol (flags_of x.flags) (is_name (scope_of (lent x.s x.slots.now x.names.now))) x.rest.now x.i c.requires.2 c.begins_with_point.ensures c.if-begins_with_point.false (ne_eqb 0x22 _ c.if-c-eq-QUOTE.false)) (row-taken symbols c.first_symbol-m.ensures _ c.in-Some.is c.of_word.ensures), refl)
 
 pub returns-in-None : goal.returns-in-None
 returns-in-None c =

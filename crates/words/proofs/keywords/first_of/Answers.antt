@@ -1,35 +1,36 @@
--- The search has come to word k, which begins as the window does, with its reach.
-use Rattle.words.proofs.KeywordLaws.{search_none, search_row, search_more, search_hit, search_end, skipped_first, skipped_next}
+-- The search has come to a word that begins as the window does, with its reach.
+use Rattle.words.proofs.KeywordLaws.{search_begun, search_place, search_row, search_less, search_more, search_hit, search_end}
+use mathlib.Core.Path.{sym, ◌∙◌}
+use borrow.Author.Rules.{rules}
 use native.Mathlib.Omega.{arith}
 use Rattle.words.proofs.keywords.first_of.Goals as goal
 
-pub loop-k-init : goal.loop-k-init
-loop-k-init c = search_none c.requires.0 c.requires.3 (omega arith) (skipped_first _ _ c.requires.2)
+pub loop-next-init : goal.loop-next-init
+loop-next-init c = let z = c.requires in search_begun z.0 z.3 (omega arith) z.2
 
-pub try_row-t-requires : goal.try_row-t-requires
-try_row-t-requires c = let z = c.requires in (omega arith, omega arith, search_row z.0 z.3 c.loop-k.invariant (omega arith), z.3, omega arith, omega arith, omega arith)
+pub offset_bounds-words-k : goal.offset_bounds-words-k
+offset_bounds-words-k c = let b = search_row c.in-Some.k c.requires.0 (search_place c.in-Some.k c.loop-next.invariant c.in-Some.is) in search (rules, b.2)
 
-pub answer-requires : goal.answer-requires
-answer-requires c = let z = c.requires in let r = search_row z.0 z.3 c.loop-k.invariant (omega arith) in omega arith
+pub bounds-words-k : goal.bounds-words-k
+bounds-words-k c = (search_row c.in-Some.k c.requires.0 (search_place c.in-Some.k c.loop-next.invariant c.in-Some.is)).2
 
-pub returns-then-t : goal.returns-then-t
-returns-then-t c = let z = c.requires in rw c.answer.ensures (search_hit z.0 z.3 c.loop-k.invariant (omega arith) c.try_row-t.ensures c.if-t.true)
-
-pub wide-k-requires : goal.wide-k-requires
-wide-k-requires c = tt
-
-pub loop-k-smaller : goal.loop-k-smaller
-loop-k-smaller c =
-    let s = c.loop-k.invariant in
-    let n = (skipped_next _ _ c.requires.1 (omega arith) (s.begins (omega arith)) c.wide-k.ensures).on in
-    omega arith
-
-pub loop-k-preserved : goal.loop-k-preserved
-loop-k-preserved c =
+pub try_word-m-requires : goal.try_word-m-requires
+try_word-m-requires c =
     let z = c.requires in
-    let s = c.loop-k.invariant in
-    search_more z.0 z.3 s (omega arith) c.try_row-t.ensures c.if-t.false
-    (skipped_next _ _ z.1 (omega arith) (s.begins (omega arith)) c.wide-k.ensures)
+    let s = search_place c.in-Some.k c.loop-next.invariant c.in-Some.is in
+    ((search_row c.in-Some.k z.0 s).0, z.3, omega arith, omega arith, omega arith)
+
+pub returns-then-is_some : goal.returns-then-is_some
+returns-then-is_some c =
+    search_hit c.in-Some.k c.requires.0 (search_place c.in-Some.k c.loop-next.invariant c.in-Some.is) _ _ c.try_word-m.ensures (sym c.is_some.ensures ∙ c.if-is_some.true)
+
+pub loop-next-preserved : goal.loop-next-preserved
+loop-next-preserved c =
+    let z = c.requires in
+    search_more c.in-Some.k z.0 (search_place c.in-Some.k c.loop-next.invariant c.in-Some.is) _ _ c.try_word-m.ensures (sym c.is_some.ensures ∙ c.if-is_some.false) z.3 z.1
+
+pub loop-next-smaller : goal.loop-next-smaller
+loop-next-smaller c = let z = c.requires in search_less c.in-Some.k z.0 (search_place c.in-Some.k c.loop-next.invariant c.in-Some.is) z.1 c.in-Some.is
 
 pub returns : goal.returns
-returns c = let z = c.requires in search_end z.0 z.3 c.loop-k.invariant (omega arith) (omega arith)
+returns c = search_end c.loop-next.invariant c.in_default.is (omega arith)
