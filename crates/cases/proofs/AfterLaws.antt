@@ -5,28 +5,27 @@ use mathlib.Core.List.{List}
 use borrow.Author.Tests.{ne_eqb}
 use Prim.Native.Nat.{ℕ, suc, ◌-◌, ◌≤◌, ◌<◌}
 use native.Mathlib.Omega.{arith}
+use Rattle.std.specs.Prelude.{Ok, Err}
 use Rattle.scope.specs.declared.scope.Scope.{Scope}
-use Rattle.scope.specs.declared.scope.Changed.{Changed as Answer}
-use Rattle.scope.specs.declared.scope.Changed.TheVariants.{Done, Refused}
 use Rattle.scope.specs.Entries.{ParsingScope}
 use Rattle.scope.specs.Calls.{Changed, pop, set_entry_name, add_parsed_name}
 use Rattle.scope.specs.Lent.{Lent, is_broken, scope_of, on_scope, push_list, set_context_list}
-use Rattle.scope.specs.Answers.{lent, answer_of, Kept, Whole}
+use Rattle.scope.specs.Answers.{Answer, lent, answer_of, Kept, Whole}
 use Rattle.cases.specs.After.{after_call, after_change, call_of, call_end, after_call_at, after_calls}
 
 -- Rows that were not lent to be changed.
 pub kept_same : (a : Answer) (rows : List (List ℕ)) → Kept a rows rows
-kept_same (Done s) rows = tt
-kept_same (Refused n) rows = refl
+kept_same (Ok s) rows = tt
+kept_same (Err e) rows = refl
 
 pub still_whole : (a : Answer) (s : Scope) (ss ns ss' ns' : List (List ℕ)) → Kept a ss ss' → Kept a ns ns' → Whole a ss' ns' → is_broken (lent s ss ns) ≡ false → is_broken (lent (after_call a s) ss' ns') ≡ false
-still_whole (Done next) s ss ns ss' ns' k l w h = w
-still_whole (Refused n) s ss ns ss' ns' k l w h = rw (k, l) h
+still_whole (Ok next) s ss ns ss' ns' k l w h = w
+still_whole (Err e) s ss ns ss' ns' k l w h = rw (k, l) h
 
 -- The scope after a call is the model's.
 after-change : (a : Answer) (s : Scope) (ss ns ss' ns' : List (List ℕ)) → Kept a ss ss' → Kept a ns ns' → scope_of (lent (after_call a s) ss' ns') ≡ after_change (answer_of a ss' ns') (scope_of (lent s ss ns))
-after-change (Done next) s ss ns ss' ns' k l = refl
-after-change (Refused n) s ss ns ss' ns' k l = rw (k, l)
+after-change (Ok next) s ss ns ss' ns' k l = refl
+after-change (Err e) s ss ns ss' ns' k l = rw (k, l)
 
 pub after_model : (a : Answer) (s : Scope) (ss ns ss' ns' : List (List ℕ)) (m : ParsingScope → Changed) → Kept a ss ss' → Kept a ns ns' → answer_of a ss' ns' ≡ on_scope (lent s ss ns) m → is_broken (lent s ss ns) ≡ false
     → scope_of (lent (after_call a s) ss' ns') ≡ after_change (m (scope_of (lent s ss ns))) (scope_of (lent s ss ns))

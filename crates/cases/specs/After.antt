@@ -1,20 +1,19 @@
 -- A scope from its calls, as a case gives them.
-use Rattle.std.specs.Prelude.{cond, List, ℕ, zero, suc, ◌+◌, min, eqb, take, replicate}
+use Rattle.std.specs.Prelude.{cond, List, Ok, Err, ℕ, zero, suc, ◌+◌, min, eqb, take, replicate}
 use Rattle.scope.specs.declared.scope.Scope.{Scope}
-use Rattle.scope.specs.declared.scope.Changed.{Changed as Answer}
-use Rattle.scope.specs.declared.scope.Changed.TheVariants.{Done, Refused}
 use Rattle.scope.specs.Limits.{max_name}
 use Rattle.scope.specs.Entries.{ParsingScope, opened}
 use Rattle.scope.specs.Calls.{Changed, changed, refused, pop, set_entry_name, add_parsed_name}
 use Rattle.scope.specs.Lent.{push_list, set_context_list}
+use Rattle.scope.specs.Answers.{Answer}
 use Rattle.cases.specs.Fields.{decimal_at, decimal_end, cells_at, cells_end}
 use Rattle.cases.specs.Laid.{laid}
 use Rattle.cases.specs.Entries.{names_at, rows_at, entries_end}
 
 -- A refused call leaves the scope that was: the code's, and the model's.
 abbrev pub after_call : Answer → Scope → Scope
-after_call (Done next) s = next
-after_call (Refused n) s = s
+after_call (Ok next) s = next
+after_call (Err e) s = s
 
 abbrev pub after_change : Changed → ParsingScope → ParsingScope
 after_change (changed next) s = next

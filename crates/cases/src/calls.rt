@@ -8,7 +8,8 @@ ghost use Rattle.cases.specs.Entries as spec;
 ghost use Rattle.cases.specs.After.{after_call, call_of, call_at, after_call_at, call_end, scope_at};
 
 use crate::fields;
-use scope::scope::{Changed, Listed, Scope, Slot};
+use scope::scope::{Listed, Scope, Slot};
+use text::refusal::Refusal;
 
 // One character more than a name may have, so that a longer one is told.
 const LONG_NAME: usize = Scope::MAX_NAME + 1;
@@ -21,7 +22,7 @@ const MAX_CELLS: usize = 1024;
 // A call was made: its answer, the scope after it, and where the next field begins.
 #[derive(Clone, Copy)]
 pub struct Called {
-    pub answer: Changed,
+    pub answer: Result<Scope, Refusal>,
     pub scope: Scope,
     pub next: usize,
 }
@@ -80,7 +81,7 @@ fn made(
     name: &[u32],
     rows: &[[u32; Listed::NUMBERS]],
     cells: &[u32],
-) -> Changed
+) -> Result<Scope, Refusal>
     ensures { (answer_of result slots.new names.new ≡ on_scope (lent s slots.old names.old) (call_of call name.now cells.now rows.now))
         × Kept result slots.old slots.new × Kept result names.old names.new × Whole result slots.new names.new }
 {
@@ -94,12 +95,12 @@ fn made(
 }
 
 // A refused call leaves the scope that was; no case has one.
-fn after(r: Changed, s: Scope) -> Scope
+fn after(r: Result<Scope, Refusal>, s: Scope) -> Scope
     ensures { result ≡ after_call r s }
 {
     match r {
-        Changed::Done(next) => next,
-        Changed::Refused(_) => s,
+        Ok(next) => next,
+        Err(_) => s,
     }
 }
 

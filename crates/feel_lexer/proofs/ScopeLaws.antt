@@ -10,30 +10,29 @@ use Rattle.scope.specs.Entries.{ParsingScope}
 use Rattle.scope.specs.Entries as entries
 use Rattle.scope.specs.Calls as calls
 use Rattle.scope.specs.Lent.{is_broken, scope_of, on_scope}
-use Rattle.scope.specs.Answers.{lent, answer_of, Kept, Whole}
+use Rattle.scope.specs.Answers.{Answer, lent, answer_of, Kept, Whole}
 use Rattle.scope.specs.declared.scope.Scope.{Scope}
-use Rattle.scope.specs.declared.scope.Changed.{Changed}
-use Rattle.scope.specs.declared.scope.Changed.TheVariants.{Done, Refused}
+use Rattle.std.specs.Prelude.{Ok, Err}
 use Rattle.text.specs.Refusals.{broken_scope}
 use Rattle.feel_lexer.specs.Numbers.{scope_size, counts_of, lent_of}
 use Rattle.feel_lexer.specs.Exported.{Sized, HasPlace, coded_number, scope_numbers, changed_number, Leaves, scope_call, ScopeCall, ScopeOpened}
 use Rattle.feel_lexer.proofs.SizeLaws.{is-answer, not_sized, whole_three}
 
-same_number : (c : Changed) (slots names : List (List ℕ)) → coded_number c ≡ changed_number (answer_of c slots names)
-same_number (Done s) slots names = refl
-same_number (Refused n) slots names = refl
+same_number : (c : Answer) (slots names : List (List ℕ)) → coded_number c ≡ changed_number (answer_of c slots names)
+same_number (Ok s) slots names = refl
+same_number (Err e) slots names = refl
 
-leaves : (c : Changed) (scope scope' : List ℕ) (slots names slots' names' : List (List ℕ)) → Kept c slots slots' → Kept c names names' → Whole c slots' names' → scope' ≡ scope_numbers c scope
+leaves : (c : Answer) (scope scope' : List ℕ) (slots names slots' names' : List (List ℕ)) → Kept c slots slots' → Kept c names names' → Whole c slots' names' → scope' ≡ scope_numbers c scope
     → Leaves (answer_of c slots' names') scope slots names scope' slots' names'
-leaves (Done s) scope scope' slots names slots' names' a b w e = (rw e, rw e w)
-leaves (Refused n) scope scope' slots names slots' names' a b w e = (e, a, b)
+leaves (Ok s) scope scope' slots names slots' names' a b w e = (rw e, rw e w)
+leaves (Err r) scope scope' slots names slots' names' a b w e = (e, a, b)
 
 -- Rows that a call is not lent to write stay.
-pub kept_same : (c : Changed) (rows : List (List ℕ)) → Kept c rows rows
-kept_same (Done s) rows = tt
-kept_same (Refused n) rows = refl
+pub kept_same : (c : Answer) (rows : List (List ℕ)) → Kept c rows rows
+kept_same (Ok s) rows = tt
+kept_same (Err e) rows = refl
 
-pub place_of : (ns : List ℕ) {r : Changed} {s : Scope} → r ≡ Done s → HasPlace r ns → length ns ≡ scope_size
+pub place_of : (ns : List ℕ) {r : Answer} {s : Scope} → r ≡ Ok s → HasPlace r ns → length ns ≡ scope_size
 place_of ns e h = subst (λ x. HasPlace x ns) e h
 
 -- An accepted call was lent a scope that is not broken.
@@ -41,20 +40,20 @@ is_done : calls.Changed → Bool
 is_done (calls.changed s) = true
 is_done (calls.refused n) = false
 
-pub has_place : (call : ParsingScope → calls.Changed) (scope : List ℕ) (slots names : List (List ℕ)) {s : Scope} → s ≡ counts_of scope → (c : Changed) (slots' names' : List (List ℕ)) → answer_of c slots' names' ≡ on_scope (lent s slots names) call → HasPlace c scope
+pub has_place : (call : ParsingScope → calls.Changed) (scope : List ℕ) (slots names : List (List ℕ)) {s : Scope} → s ≡ counts_of scope → (c : Answer) (slots' names' : List (List ℕ)) → answer_of c slots' names' ≡ on_scope (lent s slots names) call → HasPlace c scope
 unfolding is_done
-has_place call scope slots names read (Done s) slots' names' made = go (is_broken (lent_of scope slots names)) refl (made ∙ ap (λ x. on_scope (lent x slots names) call) read)
+has_place call scope slots names read (Ok s) slots' names' made = go (is_broken (lent_of scope slots names)) refl (made ∙ ap (λ x. on_scope (lent x slots names) call) read)
   where
-    go : (b : Bool) → is_broken (lent_of scope slots names) ≡ b → answer_of (Done s) slots' names' ≡ cond b (calls.refused broken_scope) (call (scope_of (lent_of scope slots names))) → length scope ≡ scope_size
+    go : (b : Bool) → is_broken (lent_of scope slots names) ≡ b → answer_of (Ok s) slots' names' ≡ cond b (calls.refused broken_scope) (call (scope_of (lent_of scope slots names))) → length scope ≡ scope_size
     go true e f = absurd (false≢true (sym (ap is_done f)))
     go false e f = whole_three scope slots names e
-has_place call scope slots names read (Refused n) slots' names' made = tt
+has_place call scope slots names read (Err e) slots' names' made = tt
 
 module _ (call : ParsingScope → calls.Changed) (scope : List ℕ) {ns : List ℕ} {m : ℕ} {ns' : List ℕ} (k : Sized ns m ns') (slots names : List (List ℕ)) where
   pub call_unsized : 0 < m → ScopeCall call ns scope slots names m ns' scope slots names
   call_unsized h = let u = not_sized k h in record { number = u.1 ∙ rw u.0; left = rw u.0 (refl, refl, refl); answer = k.answer }
 
-  module _ (sized : m ≤ 0) {s : Scope} (read : s ≡ counts_of scope) (c : Changed) (slots' names' : List (List ℕ)) (made : answer_of c slots' names' ≡ on_scope (lent s slots names) call) where
+  module _ (sized : m ≤ 0) {s : Scope} (read : s ≡ counts_of scope) (c : Answer) (slots' names' : List (List ℕ)) (made : answer_of c slots' names' ≡ on_scope (lent s slots names) call) where
     made_is : scope_call ns scope slots names call ≡ answer_of c slots' names'
     made_is = rw (is-answer k sized) (sym (made ∙ ap (λ x. on_scope (lent x slots names) call) read))
 

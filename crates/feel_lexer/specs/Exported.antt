@@ -1,8 +1,8 @@
 -- The exported calls: what each returns and leaves in its slices. 0 is returned where nothing is refused.
 -- Refused first, with 9 and place 0: an answer or a lexer that is not of its form; what the calls below refuse comes behind, a scope of another size as any broken one.
-use Rattle.std.specs.Prelude.{◌≡◌, Bool, true, false, cond, ◌&&◌, List, [], ◌∷◌, ℕ, ◌+◌, ◌≤◌, eqb, leb, length}
+use Rattle.std.specs.Prelude.{◌≡◌, Ok, Err, Bool, true, false, cond, ◌&&◌, List, [], ◌∷◌, ℕ, ◌+◌, ◌≤◌, eqb, leb, length}
 use Rattle.reading.specs.Slices.{front, zeros}
-use Rattle.text.specs.Refusals.{short_slice, broken_scope}
+use Rattle.text.specs.Refusals.{short_slice, broken_scope, number_of}
 use Rattle.text.specs.Utf8 as utf8
 use Rattle.text.specs.declared.utf8.Opening.{Opening as Answered}
 use Rattle.text.specs.declared.utf8.Opening.TheVariants.{Opened, Refused as RefusedAt}
@@ -10,8 +10,7 @@ use Rattle.scope.specs.Limits.{max_entries, max_parsed}
 use Rattle.scope.specs.Entries as entries
 use Rattle.scope.specs.Entries.{ParsingScope}
 use Rattle.scope.specs.Calls as calls
-use Rattle.scope.specs.declared.scope.Changed.{Changed}
-use Rattle.scope.specs.declared.scope.Changed.TheVariants.{Done, Refused}
+use Rattle.scope.specs.Answers.{Answer}
 use Rattle.scope.specs.Lent.{is_broken, scope_of, on_scope}
 use Rattle.lexer.specs.Read.{Read, token, refused, cells_of}
 use Rattle.lexer.specs.Lexer.{Called, next_token}
@@ -64,18 +63,18 @@ feel_open bytes cells ns =
     cond (is_answer ns) (opening (utf8.open_bytes bytes (length cells)) cells) (record { number = short_slice; cells = cells; answer = ns })
 
 -- What the code of a scope call answers, as a number; and the scope's numbers behind it.
-abbrev pub coded_number : Changed → ℕ
-coded_number (Done s) = 0
-coded_number (Refused n) = n
+abbrev pub coded_number : Answer → ℕ
+coded_number (Ok s) = 0
+coded_number (Err e) = number_of e
 
-abbrev pub scope_numbers : Changed → List ℕ → List ℕ
-scope_numbers (Done s) ns = s.contexts ∷ s.entries ∷ s.parsed ∷ []
-scope_numbers (Refused n) ns = ns
+abbrev pub scope_numbers : Answer → List ℕ → List ℕ
+scope_numbers (Ok s) ns = s.contexts ∷ s.entries ∷ s.parsed ∷ []
+scope_numbers (Err e) ns = ns
 
 -- Where there is a scope to write there are three numbers for it.
-abbrev pub HasPlace : Changed → List ℕ → Type 0
-HasPlace (Done s) ns = length ns ≡ scope_size
-HasPlace (Refused n) ns = Unit {0}
+abbrev pub HasPlace : Answer → List ℕ → Type 0
+HasPlace (Ok s) ns = length ns ≡ scope_size
+HasPlace (Err e) ns = Unit {0}
 
 -- A scope call, by what the model answers.
 abbrev pub changed_number : calls.Changed → ℕ

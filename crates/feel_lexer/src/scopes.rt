@@ -5,20 +5,20 @@ ghost use Rattle.scope.specs.Lent.{push_list, set_context_list};
 ghost use Rattle.feel_lexer.specs.Exported.{HasPlace, coded_number, scope_numbers, ScopeCall, ScopeOpened};
 
 use crate::{answer, state};
-use scope::scope::{Changed, Listed, Scope, Slot};
+use scope::scope::{Listed, Scope, Slot};
 use text::refusal::Refusal;
 
 // Writes the scope that a call gave; a refused one leaves it.
-fn after(r: Changed, scope: &mut [usize]) -> u32
+fn after(r: Result<Scope, Refusal>, scope: &mut [usize]) -> u32
     requires { HasPlace r scope.old }
     ensures { (result ≡ coded_number r) × (scope.new ≡ scope_numbers r scope.old) }
 {
     match r {
-        Changed::Done(s) => {
+        Ok(s) => {
             state::put_scope(scope, s);
             Refusal::NONE
         }
-        Changed::Refused(n) => n,
+        Err(e) => u32::from(e),
     }
 }
 

@@ -1,6 +1,7 @@
 // Answers printed. What is written cannot be said in a contract, so these have none.
-use scope::scope::{Changed, Scope};
+use scope::scope::Scope;
 use std::io;
+use text::refusal::Refusal;
 
 // The rest of a line behind its mark and a space.
 pub fn heading(rt: &impl Print, line: &[u8]) -> io::Result<()> {
@@ -12,11 +13,11 @@ pub fn heading(rt: &impl Print, line: &[u8]) -> io::Result<()> {
 }
 
 // What a call answered: the counts after it, or the refusal's number.
-pub fn answer(rt: &impl Print, text: &[u8], r: Changed) -> io::Result<()> {
+pub fn answer(rt: &impl Print, text: &[u8], r: Result<Scope, Refusal>) -> io::Result<()> {
     say::words(rt, text)?;
     match r {
-        Changed::Done(s) => counts(rt, s),
-        Changed::Refused(n) => refusal(rt, n),
+        Ok(s) => counts(rt, s),
+        Err(e) => refusal(rt, u32::from(e)),
     }
 }
 

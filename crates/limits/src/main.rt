@@ -25,8 +25,8 @@ fn has(
         names,
     };
     match lent.checked() {
-        Some(scope) => keys::is_name(scope, text),
-        None => false,
+        Ok(scope) => keys::is_name(scope, text),
+        Err(_) => false,
     }
 }
 

@@ -1,7 +1,8 @@
 // The scope calls refused: a broken scope, list or name, and the limits.
 use crate::{filled, lent, told};
-use scope::scope::{Changed, Listed, Scope, Slot};
+use scope::scope::{Listed, Scope, Slot};
 use std::io;
+use text::refusal::Refusal;
 
 // Which call is tried.
 const PUSH: u32 = 0;
@@ -30,7 +31,7 @@ fn made(
     name: &[u32],
     rows: &[[u32; Listed::NUMBERS]],
     cells: &[u32],
-) -> Changed {
+) -> Result<Scope, Refusal> {
     match call {
         PUSH => scope_calls::push::push(s, slots, names, rows, cells),
         SET_ENTRY_NAME => scope_calls::naming::set_entry_name(s, slots, names, name),
@@ -60,10 +61,10 @@ fn write_cells(cells: &mut [u32]) {
     }
 }
 
-fn after(r: Changed, s: Scope) -> Scope {
+fn after(r: Result<Scope, Refusal>, s: Scope) -> Scope {
     match r {
-        Changed::Done(next) => next,
-        Changed::Refused(_) => s,
+        Ok(next) => next,
+        Err(_) => s,
     }
 }
 
@@ -134,10 +135,10 @@ fn said(s: Scope, contexts: usize) -> Scope {
     }
 }
 
-fn answer(rt: &impl Print, r: Changed) -> io::Result<()> {
+fn answer(rt: &impl Print, r: Result<Scope, Refusal>) -> io::Result<()> {
     match r {
-        Changed::Done(_) => say::words(rt, b"done"),
-        Changed::Refused(n) => told::refused(rt, n),
+        Ok(_) => say::words(rt, b"done"),
+        Err(e) => told::refused(rt, u32::from(e)),
     }
 }
 

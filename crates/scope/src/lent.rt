@@ -1,10 +1,11 @@
 // A scope as it is lent: the counts, and beside them the rows of its entries and parsed names.
-ghost use Rattle.std.specs.Prelude.{◌≡◌, true, false, MatchOption};
+ghost use Rattle.std.specs.Prelude.{◌≡◌, true, false, MatchResult};
 ghost use Rattle.scope.specs.Lent.{is_broken};
 ghost use Rattle.scope.specs.Answers.{lent};
 
 use crate::broken;
 use crate::scope::{Scope, Slot};
+use text::refusal::Refusal;
 
 // A lent scope of which nothing is known.
 #[derive(Clone, Copy)]
@@ -26,9 +27,10 @@ pub struct Sound<'a> {
 impl<'a> Lent<'a> {
     // The check that every call lent a scope makes.
     // Ruled out, among others: a broken scope let pass; a sound one refused.
-    pub fn checked(self) -> Option<Sound<'a>>
-        ensures { MatchOption result (is_broken (lent self.entry.counts self.entry.slots.now self.entry.names.now) ≡ true)
-            (λ s. (s.counts ≡ self.entry.counts) × (s.slots.now ≡ self.entry.slots.now) × (s.names.now ≡ self.entry.names.now)) }
+    pub fn checked(self) -> Result<Sound<'a>, Refusal>
+        ensures { MatchResult result
+            (λ s. (s.counts ≡ self.entry.counts) × (s.slots.now ≡ self.entry.slots.now) × (s.names.now ≡ self.entry.names.now))
+            (λ e. (e ≡ Refusal.BrokenScope) × (is_broken (lent self.entry.counts self.entry.slots.now self.entry.names.now) ≡ true)) }
     {
         let Lent {
             counts,
@@ -36,9 +38,9 @@ impl<'a> Lent<'a> {
             names,
         } = self;
         if broken::is_broken(counts, slots, names) {
-            return None;
+            return Err(Refusal::BrokenScope);
         }
-        Some(Sound {
+        Ok(Sound {
             counts,
             slots,
             names,

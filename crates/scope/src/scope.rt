@@ -110,10 +110,3 @@ pub fn numbers() -> [usize; 10]
         Kind::CONTEXT as usize,
     ]
 }
-
-// What a call answers: the scope after it, or the number of a refusal.
-#[derive(Clone, Copy)]
-pub enum Changed {
-    Done(Scope),
-    Refused(u32),
-}

@@ -10,7 +10,7 @@ ghost use Rattle.scope.specs.Answers.{lent, answer_of, Kept, Whole};
 
 use crate::{push, stack, write};
 use lists::list;
-use scope::scope::{Changed, Kind, Listed, Scope, Slot};
+use scope::scope::{Kind, Listed, Scope, Slot};
 use scope::{broken, compare};
 use text::refusal::Refusal;
 
@@ -132,22 +132,22 @@ pub fn set_entry_name(
     slots: &mut [[u32; Slot::NUMBERS]],
     names: &mut [[u32; Scope::MAX_NAME]],
     name: &[u32],
-) -> Changed
+) -> Result<Scope, Refusal>
     ensures { (answer_of result slots.new names.new ≡ on_scope (lent s slots.old names.old) (spec.set_entry_name name.now))
         × Kept result slots.old slots.new × Kept result names.old names.new × Whole result slots.new names.new }
 {
     if broken::is_broken(s, slots, names) {
-        return Changed::Refused(Refusal::BROKEN_SCOPE);
+        return Err(Refusal::BrokenScope);
     }
     if broken::is_broken_name(name, name.len()) {
-        return Changed::Refused(Refusal::BROKEN_SCOPE);
+        return Err(Refusal::BrokenScope);
     }
     if s.contexts == 0 {
-        return Changed::Done(s);
+        return Ok(s);
     }
     let from = stack::before_context(slots, names, s.entries, s.contexts);
     if Scope::MAX_ENTRIES <= from + left_beside(slots, names, from, s.entries, name) {
-        return Changed::Refused(Refusal::OVER_LIMIT);
+        return Err(Refusal::OverLimit);
     }
     let end = replace(
         slots,
@@ -158,7 +158,7 @@ pub fn set_entry_name(
         Kind::VARIABLE,
         name,
     );
-    Changed::Done(Scope {
+    Ok(Scope {
         contexts: s.contexts,
         entries: end,
         parsed: s.parsed,
@@ -174,32 +174,32 @@ pub fn set_context(
     name: &[u32],
     rows: &[[u32; Listed::NUMBERS]],
     cells: &[u32],
-) -> Changed
+) -> Result<Scope, Refusal>
     ensures { (answer_of result slots.new names.new ≡ on_scope (lent s slots.old names.old) (set_context_list name.now cells.now rows.now))
         × Kept result slots.old slots.new × Kept result names.old names.new × Whole result slots.new names.new }
 {
     if broken::is_broken(s, slots, names) {
-        return Changed::Refused(Refusal::BROKEN_SCOPE);
+        return Err(Refusal::BrokenScope);
     }
     if list::any_outside(rows, cells) {
-        return Changed::Refused(Refusal::BROKEN_SCOPE);
+        return Err(Refusal::BrokenScope);
     }
     if broken::is_broken_name(name, name.len()) {
-        return Changed::Refused(Refusal::BROKEN_SCOPE);
+        return Err(Refusal::BrokenScope);
     }
     if list::any_broken(rows, cells, Scope::MAX_DEPTH - 1) {
-        return Changed::Refused(Refusal::BROKEN_SCOPE);
+        return Err(Refusal::BrokenScope);
     }
     if s.contexts == 0 {
-        return Changed::Done(s);
+        return Ok(s);
     }
     let from = stack::before_context(slots, names, s.entries, s.contexts);
     let kept = from + left_beside(slots, names, from, s.entries, name);
     if Scope::MAX_ENTRIES <= kept {
-        return Changed::Refused(Refusal::OVER_LIMIT);
+        return Err(Refusal::OverLimit);
     }
     if Scope::MAX_ENTRIES - kept <= list::remaining(rows, cells) {
-        return Changed::Refused(Refusal::OVER_LIMIT);
+        return Err(Refusal::OverLimit);
     }
     let at = replace(
         slots,
@@ -211,7 +211,7 @@ pub fn set_context(
         name,
     );
     let end = push::append(slots, names, at, s.contexts as u32, 1, rows, cells);
-    Changed::Done(Scope {
+    Ok(Scope {
         contexts: s.contexts,
         entries: end,
         parsed: s.parsed,

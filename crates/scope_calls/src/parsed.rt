@@ -6,7 +6,7 @@ ghost use Rattle.scope.specs.Answers.{lent, answer_of, Kept, Whole};
 
 use crate::write;
 use scope::broken;
-use scope::scope::{Changed, Scope, Slot};
+use scope::scope::{Scope, Slot};
 use text::refusal::Refusal;
 
 // Adds a parsed name; one that is there already changes nothing.
@@ -16,24 +16,24 @@ pub fn add_parsed_name(
     slots: &mut [[u32; Slot::NUMBERS]],
     names: &mut [[u32; Scope::MAX_NAME]],
     name: &[u32],
-) -> Changed
+) -> Result<Scope, Refusal>
     ensures { (answer_of result slots.new names.new ≡ on_scope (lent s slots.old names.old) (spec.add_parsed_name name.now))
         × Kept result slots.old slots.new × Kept result names.old names.new × Whole result slots.new names.new }
 {
     if broken::is_broken(s, slots, names) {
-        return Changed::Refused(Refusal::BROKEN_SCOPE);
+        return Err(Refusal::BrokenScope);
     }
     if broken::is_broken_name(name, name.len()) {
-        return Changed::Refused(Refusal::BROKEN_SCOPE);
+        return Err(Refusal::BrokenScope);
     }
     if broken::is_parsed(slots, names, s.parsed, 0, name, name.len()) {
-        return Changed::Done(s);
+        return Ok(s);
     }
     if Scope::MAX_PARSED <= s.parsed {
-        return Changed::Refused(Refusal::OVER_LIMIT);
+        return Err(Refusal::OverLimit);
     }
     write::put(slots, names, Scope::MAX_ENTRIES + s.parsed, 0, 0, 0, name);
-    Changed::Done(Scope {
+    Ok(Scope {
         contexts: s.contexts,
         entries: s.entries,
         parsed: s.parsed + 1,

@@ -9,7 +9,7 @@ ghost use Rattle.scope.specs.Answers.{lent, answer_of, Kept, Whole};
 
 use crate::write;
 use lists::list;
-use scope::scope::{Changed, Listed, Scope, Slot};
+use scope::scope::{Listed, Scope, Slot};
 use scope::{broken, compare};
 use text::refusal::Refusal;
 
@@ -80,24 +80,24 @@ pub fn push(
     names: &mut [[u32; Scope::MAX_NAME]],
     rows: &[[u32; Listed::NUMBERS]],
     cells: &[u32],
-) -> Changed
+) -> Result<Scope, Refusal>
     ensures { (answer_of result slots.new names.new ≡ on_scope (lent s slots.old names.old) (push_list cells.now rows.now))
         × Kept result slots.old slots.new × Kept result names.old names.new × Whole result slots.new names.new }
 {
     if broken::is_broken(s, slots, names) {
-        return Changed::Refused(Refusal::BROKEN_SCOPE);
+        return Err(Refusal::BrokenScope);
     }
     if list::any_outside(rows, cells) {
-        return Changed::Refused(Refusal::BROKEN_SCOPE);
+        return Err(Refusal::BrokenScope);
     }
     if list::any_broken(rows, cells, Scope::MAX_DEPTH) {
-        return Changed::Refused(Refusal::BROKEN_SCOPE);
+        return Err(Refusal::BrokenScope);
     }
     if Scope::MAX_CONTEXTS <= s.contexts {
-        return Changed::Refused(Refusal::OVER_LIMIT);
+        return Err(Refusal::OverLimit);
     }
     if Scope::MAX_ENTRIES - s.entries < list::remaining(rows, cells) {
-        return Changed::Refused(Refusal::OVER_LIMIT);
+        return Err(Refusal::OverLimit);
     }
     let end = append(
         slots,
@@ -108,7 +108,7 @@ pub fn push(
         rows,
         cells,
     );
-    Changed::Done(Scope {
+    Ok(Scope {
         contexts: s.contexts + 1,
         entries: end,
         parsed: s.parsed,

@@ -4,7 +4,7 @@ ghost use Rattle.scope.specs.Calls as spec;
 ghost use Rattle.scope.specs.Lent.{held, on_scope};
 ghost use Rattle.scope.specs.Answers.{lent, answer_of, Whole};
 
-use scope::scope::{Changed, Scope, Slot};
+use scope::scope::{Scope, Slot};
 use scope::{broken, compare};
 use text::refusal::Refusal;
 
@@ -31,18 +31,22 @@ pub fn before_context(
 
 // Pops the last context; the parsed names stay. Nothing is written.
 // Ruled out, among others: an empty stack refused; parsed names popped with their context.
-pub fn pop(s: Scope, slots: &[[u32; Slot::NUMBERS]], names: &[[u32; Scope::MAX_NAME]]) -> Changed
+pub fn pop(
+    s: Scope,
+    slots: &[[u32; Slot::NUMBERS]],
+    names: &[[u32; Scope::MAX_NAME]],
+) -> Result<Scope, Refusal>
     ensures { (answer_of result slots.now names.now ≡ on_scope (lent s slots.now names.now) spec.pop) × Whole result slots.now names.now }
 {
     if broken::is_broken(s, slots, names) {
-        return Changed::Refused(Refusal::BROKEN_SCOPE);
+        return Err(Refusal::BrokenScope);
     }
     if s.contexts == 0 {
-        return Changed::Done(s);
+        return Ok(s);
     }
     let entries = before_context(slots, names, s.entries, s.contexts);
     let parsed = s.parsed;
-    Changed::Done(Scope {
+    Ok(Scope {
         contexts: s.contexts - 1,
         entries: entries,
         parsed: parsed,
@@ -54,16 +58,16 @@ pub fn push_default(
     s: Scope,
     slots: &[[u32; Slot::NUMBERS]],
     names: &[[u32; Scope::MAX_NAME]],
-) -> Changed
+) -> Result<Scope, Refusal>
     ensures { (answer_of result slots.now names.now ≡ on_scope (lent s slots.now names.now) spec.push_default) × Whole result slots.now names.now }
 {
     if broken::is_broken(s, slots, names) {
-        return Changed::Refused(Refusal::BROKEN_SCOPE);
+        return Err(Refusal::BrokenScope);
     }
     if Scope::MAX_CONTEXTS <= s.contexts {
-        return Changed::Refused(Refusal::OVER_LIMIT);
+        return Err(Refusal::OverLimit);
     }
-    Changed::Done(Scope {
+    Ok(Scope {
         contexts: s.contexts + 1,
         entries: s.entries,
         parsed: s.parsed,
