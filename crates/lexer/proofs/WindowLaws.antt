@@ -1,16 +1,15 @@
 -- The window grows by one cell at its end, as the loop fills it, and is what the reading gives, with its reach.
 use Rattle.std.specs.Prelude.{Some}
 use mathlib.Core.Path.{◌≡◌, refl, sym, ap, ◌∙◌}
-use mathlib.Core.Bool.{Bool, true, false, ◌&&◌, ◌||◌}
-use mathlib.Core.List.{List, [], ◌∷◌, ◌++◌}
+use mathlib.Core.Bool.{Bool, true, false, ◌||◌}
+use mathlib.Core.List.{List}
 use Prim.Native.Nat.{ℕ, zero, suc, ◌+◌, ◌≤◌, ◌<◌, max}
-use native.Mathlib.Nat.{add-zero}
-use native.Mathlib.Numerals.{add-one}
+use native.Mathlib.Nat.{add-zero, not-suc-le-zero}
 use native.Mathlib.Omega.{arith}
 use lib.Dec.{eqb, leb, ltb}
 use borrow.Author.Tests.{leb-true, eqb-true, le-ltb}
-use lib.ListN.{length, get_or, take, set}
-use lib.Seq.{take-suc-set}
+use lib.ListN.{length, get_or, take, drop, length-take, length-drop}
+use Rattle.std.proofs.lemmas.List.{ext_get_or, get_or-take, get_or-drop}
 use Rattle.reading.specs.Look.{cell_at}
 use Rattle.reading.specs.Goes.{Goes}
 use Rattle.reading.proofs.Test.{both, below}
@@ -24,12 +23,12 @@ use Rattle.lexer.specs.Shown.{window_of}
 pub shown-end : (t : List ℕ) (i : ℕ) → length t ≤ i → 0x20 ≡ shown (cell_at t i)
 shown-end t i h = rw (cell_out t i h)
 
-module _ (t : List ℕ) (i : ℕ) (h : i < length t) {b : Bool} (p : b ≡ is_whitespace (get_or t i 0)) where
+module _ (t : List ℕ) (i : ℕ) {x : ℕ} (h : i < length t) (e : x ≡ get_or t i 0) {b : Bool} (p : b ≡ is_whitespace x) where
   pub shown_space : b ≡ true → 0x20 ≡ shown (cell_at t i)
-  shown_space e = rw (cell_in t i h, ← p, e)
+  shown_space f = rw (cell_in t i h, ← e, ← p, f)
 
-  pub shown_self : b ≡ false → get_or t i 0 ≡ shown (cell_at t i)
-  shown_self e = rw (cell_in t i h, ← p, e)
+  pub shown_self : b ≡ false → x ≡ shown (cell_at t i)
+  shown_self f = rw (cell_in t i h, ← e, ← p, f)
 
 plain_self : (c : ℕ) → within (to 0x20 0x84) c ≡ true → shown (Some c) ≡ c
 unfolding is_whitespace among
@@ -38,29 +37,29 @@ plain_self c h =
     let k = below (λ x. ltb x 0x20 || eqb (shown (Some x)) x) 0x85 refl c (omega (arith, leb-true c 0x84 b.1)) in
     eqb-true _ _ (rw (le-ltb c 0x20 (leb-true 0x20 c b.0)) at k)
 
-pub shown-plain : (t : List ℕ) (i : ℕ) → i < length t → within (to 0x20 0x84) (get_or t i 0) ≡ true → get_or t i 0 ≡ shown (cell_at t i)
-shown-plain t i h e = rw (cell_in t i h) (sym (plain_self (get_or t i 0) e))
+pub shown-plain : (t : List ℕ) (i : ℕ) {x : ℕ} → i < length t → x ≡ get_or t i 0 → {b : Bool} → b ≡ within (to 0x20 0x84) x → b ≡ true → x ≡ shown (cell_at t i)
+shown-plain t i {x} h e p f = rw (cell_in t i h, ← e) (sym (plain_self x (sym p ∙ f)))
 
-snoc : (j : ℕ) (t : List ℕ) (i : ℕ) → window_of (suc j) t i ≡ window_of j t i ++ (shown (cell_at t (i + j)) ∷ [])
+window-length : (k : ℕ) (t : List ℕ) (i : ℕ) → length (window_of k t i) ≡ k
 unfolding window_of
-snoc zero t i = rw add-zero
-snoc (suc j) t i =
-    let e : suc i + j ≡ i + suc j = omega arith in
-    ap (λ (l : List ℕ). shown (cell_at t i) ∷ l) (rw (← e) (snoc j t (suc i)))
+window-length zero t i = refl
+window-length (suc k) t i = ap suc (window-length k t (suc i))
 
--- A loop that fills a window has filled j of its cells, rightly if b says so.
-pub record Filling (t : List ℕ) (i : ℕ) (w : List ℕ) (j : ℕ) (b : Bool) : Type 0 where
-  pub upto : j ≤ 12
-  pub size : length w ≡ 12
-  pub filled : b ≡ true → take j w ≡ window_of j t i
+window-at : (k : ℕ) (t : List ℕ) (i j : ℕ) → j < k → get_or (window_of k t i) j 0 ≡ shown (cell_at t (i + j))
+unfolding window_of
+window-at zero t i j h = absurd (not-suc-le-zero h)
+window-at (suc k) t i zero h = rw add-zero
+window-at (suc k) t i (suc j) h = let e : i + suc j ≡ suc i + j = omega arith in rw e (window-at k t (suc i) j (omega arith))
 
-module _ {t w : List ℕ} {i j : ℕ} {b : Bool} (k : Filling t i w j b) where
-  pub filling_more : b ≡ true → j < length w → {v : ℕ} → v ≡ shown (cell_at t (i + j)) → take (j + 1) (set w j v) ≡ window_of (j + 1) t i
-  filling_more d h {v} e = rw (add-one, take-suc-set w j v h, k.filled d, e) (sym (snoc j t i))
+-- Twelve cells, each as the window shows it.
+pub window_is : (t : List ℕ) (i : ℕ) {w : List ℕ} → length w ≡ 12 → ((j : ℕ) → j < 12 → get_or w j 0 ≡ shown (cell_at t (i + j))) → w ≡ window_of 12 t i
+window_is t i {w} n f = ext_get_or 0 w (window_of 12 t i) (n ∙ sym (window-length 12 t i)) (λ j h. let l : j < 12 = omega arith in f j l ∙ sym (window-at 12 t i j l))
 
-  -- A plain character is copied as it stands.
-  pub copying_more : j < length w → i + j < length t → {p : Bool} → p ≡ within (to 0x20 0x84) (get_or t (i + j) 0) → b && p ≡ true → take (j + 1) (set w j (get_or t (i + j) 0)) ≡ window_of (j + 1) t i
-  copying_more h inside e d = let g = both b _ d in filling_more g.0 h (shown-plain t (i + j) inside (sym e ∙ g.1))
+-- Plain characters, copied as they stand.
+pub window_copied : (t : List ℕ) (i : ℕ) {w : List ℕ} → length w ≡ 12 → w ≡ take 12 (drop i t) → ((j : ℕ) → j < 12 → within (to 0x20 0x84) (get_or w j 0) ≡ true) → w ≡ window_of 12 t i
+window_copied t i {w} n e f =
+    let l : i + 12 ≤ length t = omega (arith, n, ap length e, length-take 12 (drop i t), length-drop i t) in
+    window_is t i n (λ j h. shown-plain t (i + j) (omega arith) (ap (λ v. get_or v j 0) e ∙ get_or-take 12 (drop i t) j 0 h ∙ get_or-drop i t j 0) refl (f j h))
 
 -- The reading gives it, from any reach so far.
 module _ (t : List ℕ) where

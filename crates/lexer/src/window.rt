@@ -6,6 +6,7 @@ ghost use Rattle.text.specs.Ranges.{to, within};
 ghost use Rattle.lexer.specs.Window.{shown};
 ghost use Rattle.lexer.specs.Shown.{window_of};
 
+use std::array;
 use text::chars::Char;
 
 // From the space up to here a window shows every character as it stands.
@@ -14,27 +15,17 @@ const LAST_PLAIN: u32 = 0x84;
 fn is_plain(c: u32) -> bool
     ensures { result ≡ within (to 0x20 0x84) c }
 {
-    if c < Char::SPACE {
-        return false;
-    }
-    c <= LAST_PLAIN
+    (Char::SPACE..=LAST_PLAIN).contains(&c)
 }
 
 // The character at i as the window shows it.
 pub fn shown_at(rest: &[u32], i: usize) -> u32
     ensures { result ≡ shown (cell_at rest.now i) }
 {
-    if rest.len() <= i {
-        return Char::SPACE;
+    match rest.get(i) {
+        Some(c) if is_plain(*c) || !text::classes::is_whitespace(*c) => *c,
+        _ => Char::SPACE,
     }
-    let c = rest[i];
-    if is_plain(c) {
-        return c;
-    }
-    if text::classes::is_whitespace(c) {
-        return Char::SPACE;
-    }
-    c
 }
 
 // The window that begins at i, shown character by character.
@@ -42,13 +33,7 @@ fn by_characters(rest: &[u32], i: usize) -> [u32; 12]
     requires { (length rest.now ≤ max_chars) × (i ≤ length rest.now) }
     ensures { result ≡ window_of 12 rest.now i }
 {
-    let mut w = [Char::SPACE; 12];
-    let mut j: usize = 0;
-    while j < 12 {
-        w[j] = shown_at(rest, i + j);
-        j += 1;
-    }
-    w
+    array::from_fn(|j| shown_at(rest, i + j))
 }
 
 // The window that begins at i: most are a copy of the text, made and tested in few steps.
@@ -57,20 +42,8 @@ pub fn window(rest: &[u32], i: usize) -> [u32; 12]
     requires { (length rest.now ≤ max_chars) × (i ≤ length rest.now) }
     ensures { result ≡ window_of 12 rest.now i }
 {
-    if rest.len() < i + 12 {
-        return by_characters(rest, i);
+    match rest[i..].first_chunk::<12>() {
+        Some(w) if w.iter().all(|c| is_plain(*c)) => *w,
+        _ => by_characters(rest, i),
     }
-    let mut w = [Char::SPACE; 12];
-    let mut plain = true;
-    let mut j: usize = 0;
-    while j < 12 {
-        let c = rest[i + j];
-        w[j] = c;
-        plain = plain & is_plain(c);
-        j += 1;
-    }
-    if plain {
-        return w;
-    }
-    by_characters(rest, i)
 }

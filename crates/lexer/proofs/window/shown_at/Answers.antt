@@ -1,17 +1,26 @@
 -- Past the end, a plain character, whitespace, or the character itself.
-use mathlib.Core.Path.{sym, ◌∙◌}
+use Rattle.std.proofs.Common.{rules, ◌≡◌, ◌<◌, ◌≤◌, get_or, length, true, false}
 use Rattle.lexer.proofs.WindowLaws.{shown-end, shown-plain, shown_space, shown_self}
-use native.Mathlib.Omega.{arith}
+use Rattle.lexer.proofs.window.shown_at.Goals.{then-is_plain, else-is_plain}
 use Rattle.lexer.proofs.window.shown_at.Goals as goal
 
-pub returns-then-rest-i : goal.returns-then-rest-i
-returns-then-rest-i c = shown-end _ _ c.if-rest-i.true
+pub returns-in-Some : goal.returns-in-Some
+returns-in-Some c =
+    let l : c.args.i < length c.args.rest.now = search rules in
+    let e : c.in-Some.c.now ≡ get_or c.args.rest.now c.args.i 0 = search rules in
+    elim c.if-is_plain.branch [
+      | then-is_plain w ↦ shown-plain _ _ l e c.is_plain.ensures w.if-is_plain.true
+      | else-is_plain w ↦ let f : w.is_whitespace.result ≡ false = search rules in shown_self _ _ l e w.is_whitespace.ensures f
+    ]
 
-pub returns-then-is_plain : goal.returns-then-is_plain
-returns-then-is_plain c = shown-plain _ _ (omega arith) (sym c.is_plain.ensures ∙ c.if-is_plain.true)
+pub returns-in_default : goal.returns-in_default
+returns-in_default c =
+    let l : c.args.i < length c.args.rest.now = search rules in
+    let e : c.in-Some.c.now ≡ get_or c.args.rest.now c.args.i 0 = search rules in
+    elim c.if-is_plain.branch [
+      | then-is_plain w ↦ cc
+      | else-is_plain w ↦ let f : w.is_whitespace.result ≡ true = search rules in shown_space _ _ l e w.is_whitespace.ensures f
+    ]
 
-pub returns-then-is_whitespace : goal.returns-then-is_whitespace
-returns-then-is_whitespace c = shown_space _ _ (omega arith) c.is_whitespace.ensures c.if-is_whitespace.true
-
-pub returns : goal.returns
-returns c = shown_self _ _ (omega arith) c.is_whitespace.ensures c.if-is_whitespace.false
+pub returns-in_default-2 : goal.returns-in_default-2
+returns-in_default-2 c = let l : length c.args.rest.now ≤ c.args.i = search rules in shown-end _ _ l

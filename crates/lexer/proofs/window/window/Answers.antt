@@ -1,34 +1,12 @@
--- The cells before j are filled, if they are plain.
-use mathlib.Core.Path.{◌≡◌, refl, sym, ◌∙◌}
-use lib.ListN.{length-set}
+-- Plain characters are copied.
+use Rattle.std.proofs.Common.{rules, ◌≡◌, ℕ, ◌<◌, true, length, take, drop, get_or, arith, ◌∙◌, ap, length-drop}
 use lib.Seq.{take_all}
-use Rattle.lexer.specs.Shown.{window_of}
-use Rattle.lexer.proofs.WindowLaws.{copying_more}
-use native.Mathlib.Omega.{arith}
+use Rattle.text.specs.Ranges.{to, within}
+use Rattle.lexer.proofs.WindowLaws.{window_copied}
 use Rattle.lexer.proofs.window.window.Goals as goal
 
-pub returns-then-rest-i : goal.returns-then-rest-i
-returns-then-rest-i c = c.by_characters.ensures
-
-pub loop-j-init : goal.loop-j-init
-unfolding window_of
-loop-j-init c = record { upto = omega arith; size = refl; filled = λ _. refl }
-
-pub is_plain-plain-requires : goal.is_plain-plain-requires
-is_plain-plain-requires c = tt
-
-pub loop-j-preserved : goal.loop-j-preserved
-loop-j-preserved c =
-    record {
-      upto = omega arith;
-      size = simp length-set c.loop-j.invariant.size;
-      filled = copying_more c.loop-j.invariant (omega arith) (omega arith) c.is_plain-plain.ensures;
-    }
-
-pub returns-then-plain : goal.returns-then-plain
-returns-then-plain c =
-    let e : c.loop-j.j ≡ 12 = omega arith in
-    sym (take_all 12 c.loop-j.w (omega arith)) ∙ rw e at (c.loop-j.invariant.filled c.if-plain.true)
-
-pub returns : goal.returns
-returns c = c.by_characters-2.ensures
+pub returns-in-Some : goal.returns-in-Some
+returns-in-Some c =
+    let n : length c.in-Some.w.now ≡ 12 = search rules in
+    let f : (j : ℕ) → j < 12 → within (to 0x20 0x84) (get_or c.in-Some.w.now j 0) ≡ true = λ j h. search rules in
+    window_copied _ _ n (c.in-Some.ensures.cases.same ∙ ap (take 12) (take_all _ (drop c.args.i c.args.rest.now) (omega (arith, length-drop c.args.i c.args.rest.now)))) f
