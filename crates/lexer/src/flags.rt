@@ -91,11 +91,10 @@ impl From<Flags> for u32 {
     ghost from_gives = { λ f n. n ≡ flag_bits (flags_of f) };
 
     fn from(flags: Flags) -> u32 {
-        let bit = |flag: Flag, on: bool| flag as u32 * u32::from(on);
-        bit(Flag::UnaryTests, flags.unary_tests)
-            + bit(Flag::Between, flags.between)
-            + bit(Flag::TypeName, flags.type_name)
-            + bit(Flag::TillIn, flags.till_in)
-            + bit(Flag::AfterDot, flags.after_dot)
+        u32::from(flags.unary_tests)
+            + 2 * u32::from(flags.between)
+            + 4 * u32::from(flags.type_name)
+            + 8 * u32::from(flags.till_in)
+            + 16 * u32::from(flags.after_dot)
     }
 }
