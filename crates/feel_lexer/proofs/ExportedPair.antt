@@ -23,7 +23,10 @@ use Rattle.repair.proofs.BothCalls.{behind, same-request}
 use Rattle.feel_lexer.specs.Numbers.{lent_of, all_flags}
 use Rattle.feel_lexer.specs.Exported.{is_answer, Recorded, recorded, not_recorded, feel_run, feel_repair}
 use Rattle.feel_lexer.specs.HandedOn.{handed_on, Step, after_all, Accepted, run_of_last}
-use Rattle.feel_lexer.proofs.SizeLaws.{and_true}
+
+and_true : (b : Bool) → b && true ≡ b
+and_true true = refl
+and_true false = refl
 
 -- A call that returns 0 had its forms right, and made a record of a text within the limit.
 was_made : (lent : Lent) (room : Room) (n : ℕ) (r : Record) → (recorded (checked lent room n r) room).number ≡ 0 → (n ≤ max_chars) × (checked lent room n r ≡ made r)

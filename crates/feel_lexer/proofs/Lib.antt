@@ -1,7 +1,5 @@
-pub mod SizeLaws
-pub mod StateLaws
-pub mod OpenLaws
 pub mod ScopeLaws
-pub mod TokenLaws
 pub mod RecordLaws
+pub mod StateLaws
+pub mod TokenLaws
 pub mod ExportedPair

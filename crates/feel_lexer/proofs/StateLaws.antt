@@ -1,4 +1,4 @@
--- The numbers of a lexer, test by test; and that a state read from its numbers has them again.
+-- What is known of the numbers of a lexer; and that a state read from its numbers has them again.
 use Rattle.std.specs.Prelude.{None, Some}
 use mathlib.Core.Path.{◌≡◌, refl, sym}
 use mathlib.Core.Bool.{Bool, true, false, cond}
@@ -7,34 +7,11 @@ use Prim.Native.Nat.{ℕ, ◌≤◌, ◌<◌}
 use native.Mathlib.Omega.{arith}
 use lib.Dec.{eqb, leb, ltb}
 use lib.ListN.{length, get_or}
-use borrow.Author.Tests.{eq-eqb, ne_eqb, eqb-true, lt-leb, le-leb, leb-true, lt-ltb, le-ltb, ltb-true}
+use borrow.Author.Tests.{eqb-true, leb-true, ltb-true}
 use Rattle.reading.specs.Cells.{maybe}
 use Rattle.reading.proofs.Test.{both}
-use Rattle.lexer.specs.FlagsOf.{flags_of}
-use Rattle.tokens.specs.CalledBy.{state_of}
-use Rattle.tokens.specs.declared.call.Lexer.{Lexer}
-use Rattle.runs.specs.Record.{flag_bits}
 use Rattle.runs.proofs.RecordLaws.{bits_again}
 use Rattle.feel_lexer.specs.Numbers.{lexer_size, state_at, lexer_numbers, all_flags, is_pending, is_lexer}
-
-module _ (ns : List ℕ) where
-  pub lexer_missized : (length ns ≡ lexer_size → ⊥) → false ≡ is_lexer ns
-  unfolding is_lexer
-  lexer_missized h = rw (ne_eqb (length ns) lexer_size h)
-
-  module _ (sized : length ns ≡ lexer_size) where
-    pub flags_over : all_flags < get_or ns 1 0 → false ≡ is_lexer ns
-    unfolding is_lexer
-    flags_over h = rw (eq-eqb (length ns) lexer_size sized, lt-leb (get_or ns 1 0) all_flags h)
-
-    module _ (flags : get_or ns 1 0 ≤ all_flags) where
-      pub start_over : 4_294_967_295 < get_or ns 3 0 → false ≡ is_lexer ns
-      unfolding is_lexer
-      start_over h = rw (eq-eqb (length ns) lexer_size sized, le-leb (get_or ns 1 0) all_flags flags, le-ltb (get_or ns 3 0) 4_294_967_296 (omega arith))
-
-      pub pending_left : get_or ns 3 0 ≤ 4_294_967_295 → {b : Bool} → b ≡ is_pending (get_or ns 2 0) (get_or ns 3 0) → b ≡ is_lexer ns
-      unfolding is_lexer
-      pending_left h e = rw (eq-eqb (length ns) lexer_size sized, le-leb (get_or ns 1 0) all_flags flags, lt-ltb (get_or ns 3 0) 4_294_967_296 (omega arith)) e
 
 pub record Formed (ns : List ℕ) : Type 0 where
   pub sized : length ns ≡ lexer_size
@@ -50,14 +27,13 @@ lexer_form ns h =
     let c = both (ltb (get_or ns 3 0) 4_294_967_296) _ b.1 in
     record { sized = eqb-true _ _ a.0; flags = leb-true _ _ b.0; start = ltb-true _ _ c.0; pending = c.1 }
 
+pub lexer_sized : (ns : List ℕ) → is_lexer ns ≡ true → length ns ≡ lexer_size
+lexer_sized ns h = (lexer_form ns h).sized
+
 -- A number that is given with a start token that is due, or 0.
 where_due : (b : Bool) (k : ℕ) (g : ℕ → ℕ) → cond b (g k) 0 ≡ maybe (cond b (Some k) None) 0 g
 where_due true k g = refl
 where_due false k g = refl
-
-pub lexer_row : (l : Lexer) {f p s : ℕ} → f ≡ flag_bits (flags_of l.flags) → p ≡ cond l.pending 1 0 → s ≡ cond l.pending l.start_type 0
-    → l.position ∷ f ∷ p ∷ s ∷ [] ≡ lexer_numbers (state_of l)
-lexer_row l e g h = rw (e, g, h, where_due l.pending l.start_type (λ k. 1), where_due l.pending l.start_type (λ k. k))
 
 -- A refused call puts back the numbers that it read.
 pending_again : (p s : ℕ) → is_pending p s ≡ true → (cond (eqb p 1) 1 0 ≡ p) × (cond (eqb p 1) s 0 ≡ s)

@@ -1,7 +1,7 @@
 -- The token call through numbers: refused for a form, or what the token call answers. The facts of a reading bound its value.
 use Rattle.std.specs.Prelude.{Option, None, Some}
 use mathlib.Core.Path.{◌≡◌, refl, sym, ap, ◌∙◌, subst}
-use mathlib.Core.Bool.{Bool, true, false, cond, ◌||◌}
+use mathlib.Core.Bool.{true, ◌||◌, ◌&&◌}
 use mathlib.Core.List.{List, ◌++◌}
 use Prim.Native.Nat.{ℕ, ◌+◌, ◌*◌, ◌≤◌}
 use native.Mathlib.Omega.{arith}
@@ -10,10 +10,8 @@ use lib.ListN.{length, take, drop, length-take, length-drop}
 use borrow.Author.Tests.{ltb-false}
 use Rattle.reading.specs.Look.{run}
 use Rattle.reading.specs.Cells.{maybe}
-use Rattle.reading.specs.Slices.{zeros}
 use Rattle.reading.proofs.Test.{by_test}
 use Rattle.text.specs.Limits.{max_chars}
-use Rattle.text.specs.Refusals.{short_slice}
 use Rattle.scope.specs.Keys.{is_name}
 use Rattle.scope.specs.Lent.{Lent, is_broken, scope_of}
 use Rattle.scope.specs.Answers.{lent}
@@ -33,8 +31,8 @@ use Rattle.tokens.specs.declared.call.Lexer.{Lexer}
 use Rattle.tokens.specs.declared.call.Called.{Called}
 use Rattle.runs.specs.Coded.{item_from}
 use Rattle.runs.specs.declared.item.Item.{Item}
-use Rattle.feel_lexer.specs.Numbers.{placed, counts_of, lent_of, state_at, lexer_numbers}
-use Rattle.feel_lexer.specs.Exported.{told, Token, refusal_number, read_answer, token_of, item_number, item_answer}
+use Rattle.feel_lexer.specs.Numbers.{counts_of, lent_of, state_at, lexer_numbers, is_lexer}
+use Rattle.feel_lexer.specs.Exported.{is_answer, feel_next_token, refusal_number, read_answer, item_number, item_answer}
 
 module _ (l : Lent) (s : State) (t output scratch : List ℕ) where
   step_short : length t ≤ max_chars → length (cells_of (step (scope_of l) s t).read) ≤ max_chars
@@ -49,7 +47,7 @@ module _ (l : Lent) (s : State) (t output scratch : List ℕ) where
   abbrev Short : spec.Called → Type 0
   Short c = length (cells_of c.read) ≤ max_chars
 
-  pub next_short : Short (next_token l s t output scratch)
+  pub next_short : length (cells_of (next_token l s t output scratch).read) ≤ max_chars
   next_short =
       by_test Short (ltb max_chars (length t)) (λ _. omega arith)
       (λ h. by_test Short (ltb (length t) s.position) (λ _. omega arith)
@@ -68,28 +66,21 @@ whole_parts a b c o e =
     (omega arith, omega arith, omega arith)
 
 -- The code's item of an answer has the number and the answer of what that says was read.
-Same : Answer → Read → ℕ → Flags → Type 0
+abbrev pub Same : Answer → Read → ℕ → Flags → Type 0
 Same a x p f = (item_number (item_from a p f 0) ≡ refusal_number x) × (item_answer (item_from a p f 0) ≡ read_answer x p)
 
 of_case : (a : Answer) (o : List ℕ) → cell_count a ≡ length (cells_of (read_of a o)) → (p : ℕ) (f : Flags) → Same a (read_of a o) p f
-unfolding Same
 of_case (Plain k) o e p f = (refl, refl)
 of_case (Boolean b) o e p f = (refl, refl)
 of_case (Numeric before after minus exponent) o e p f = let w = whole_parts before after exponent o e in (refl, rw (← e, w.0, w.1, w.2))
 of_case (Chars k n) o e p f = (refl, rw (← e))
 of_case (Refused n c) o e p f = (refl, refl)
 
-same_item : {a : Answer} {o : List ℕ} {x : Read} → Says a o x → (p : ℕ) (f : Flags) → Same a x p f
+pub same_item : {a : Answer} {o : List ℕ} {x : Read} → Says a o x → (p : ℕ) (f : Flags) → Same a x p f
 same_item {a} {o} {x} s p f = subst (λ y. Same a y p f) s.means (of_case a o (s.size ∙ ap (λ y. length (cells_of y)) (sym s.means)) p f)
 
+-- The call on what the numbers stand for, with the answer that is told of it.
 module _ (lexer scope : List ℕ) (slots names : List (List ℕ)) (text output scratch ns : List ℕ) where
-  abbrev untaken : Token
-  untaken = record { number = short_slice; lexer = lexer; output = output; scratch = zeros (length scratch); answer = told (placed 0 0) ns }
-
-  pub token_untaken : {b : Bool} → b ≡ false → {m : ℕ} {ns' clean : List ℕ} → m ≡ short_slice → ns' ≡ told (placed 0 0) ns → clean ≡ zeros (length scratch) → (x : Token)
-      → cond b x untaken ≡ record { number = m; lexer = lexer; output = output; scratch = clean; answer = ns' }
-  token_untaken h e f g x = rw (h, e, f, g)
-
   abbrev answered : spec.Called
   answered = next_token (lent_of scope slots names) (state_at lexer) text output scratch
 
@@ -103,9 +94,8 @@ module _ (lexer scope : List ℕ) (slots names : List (List ℕ)) (text output s
     pub value_short : cell_count c.read ≤ max_chars
     value_short = omega (arith, called_at.read.size, next_short (lent_of scope slots names) (state_at lexer) text output scratch)
 
-    pub token_taken : {b : Bool} → b ≡ true → {lexer' : List ℕ} → lexer' ≡ lexer_numbers (state_of c.next) → (f : Flags) {i : Item} → i ≡ item_from c.read c.place f 0 → {n : ℕ} {ns' : List ℕ} → n ≡ item_number i → ns' ≡ item_answer i
-        → cond b (token_of answered) untaken ≡ record { number = n; lexer = lexer'; output = output'; scratch = scratch'; answer = ns' }
-    unfolding Same
+    pub token_taken : is_answer ns && is_lexer lexer ≡ true → {lexer' : List ℕ} → lexer' ≡ lexer_numbers (state_of c.next) → (f : Flags) {i : Item} → i ≡ item_from c.read c.place f 0 → {n : ℕ} {ns' : List ℕ} → n ≡ item_number i → ns' ≡ item_answer i
+        → feel_next_token lexer text scope slots names output scratch ns ≡ record { number = n; lexer = lexer'; output = output'; scratch = scratch'; answer = ns' }
     token_taken h {lexer'} e f {i} g k m =
         let w = called_at in
         let v : lexer' ≡ lexer_numbers answered.next = e ∙ ap lexer_numbers w.next in

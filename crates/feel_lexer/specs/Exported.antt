@@ -1,19 +1,20 @@
 -- The exported calls: what each returns and leaves in its slices. 0 is returned where nothing is refused.
 -- Refused first, with 9 and place 0: an answer or a lexer that is not of its form; what the calls below refuse comes behind, a scope of another size as any broken one.
-use Rattle.std.specs.Prelude.{◌≡◌, Ok, Err, Bool, true, false, cond, ◌&&◌, List, [], ◌∷◌, ℕ, ◌+◌, ◌≤◌, eqb, leb, length}
+use Rattle.std.specs.Prelude.{◌≡◌, Bool, true, false, cond, ◌&&◌, List, [], ◌∷◌, ℕ, ◌+◌, ◌≤◌, eqb, leb, length, Option, None, Some, Result, Ok, Err}
 use Rattle.reading.specs.Slices.{front, zeros}
 use Rattle.text.specs.Refusals.{short_slice, broken_scope, number_of}
 use Rattle.text.specs.Utf8 as utf8
-use Rattle.text.specs.declared.utf8.Opening.{Opening as Answered}
-use Rattle.text.specs.declared.utf8.Opening.TheVariants.{Opened, Refused as RefusedAt}
 use Rattle.scope.specs.Limits.{max_entries, max_parsed}
 use Rattle.scope.specs.Entries as entries
 use Rattle.scope.specs.Entries.{ParsingScope}
 use Rattle.scope.specs.Calls as calls
-use Rattle.scope.specs.Answers.{Answer}
+use Rattle.scope.specs.Answers.{Answer as Changed}
+use Rattle.scope.specs.declared.scope.Scope.{Scope}
 use Rattle.scope.specs.Lent.{is_broken, scope_of, on_scope}
 use Rattle.lexer.specs.Read.{Read, token, refused, cells_of}
-use Rattle.lexer.specs.Lexer.{Called, next_token}
+use Rattle.lexer.specs.Lexer.{Called as TokenCalled, next_token}
+use Rattle.tokens.specs.CalledBy.{state_of}
+use Rattle.tokens.specs.declared.call.Lexer.{Lexer}
 use Rattle.runs.specs.Item.{lengths_of, extra_of}
 use Rattle.runs.specs.declared.item.Item.{Item}
 use Rattle.runs.specs.declared.call.Made.{Made}
@@ -22,7 +23,8 @@ use Rattle.runs.specs.Record.{bit_flags}
 use Rattle.runs.specs.Request.{Request}
 use Rattle.runs.specs.Calls as runs
 use Rattle.runs.specs.Calls.{Room, room_after, run_call, repair_call}
-use Rattle.feel_lexer.specs.Numbers.{answer_size, answer, placed, counted, scope_size, is_scope, lent_of, state_at, lexer_numbers, all_flags, is_lexer}
+use Rattle.feel_lexer.specs.declared.answer.Answer.{Answer}
+use Rattle.feel_lexer.specs.Numbers.{answer_size, answer, placed, counted, is_scope, counts_of, lent_of, state_at, lexer_numbers, all_flags, is_lexer}
 
 abbrev pub is_answer : List ℕ → Bool
 is_answer ns = eqb (length ns) answer_size
@@ -31,13 +33,19 @@ is_answer ns = eqb (length ns) answer_size
 abbrev pub told : List ℕ → List ℕ → List ℕ
 told row ns = cond (is_answer ns) row ns
 
--- The answer's size was checked, and what else must hold: 0 if all is right. An answer of its size is set to place 0.
-pub record Checked (more : Bool) (ns : List ℕ) (r : ℕ) (ns' : List ℕ) : Type 0 where
-  pub number : r ≡ cond (is_answer ns && more) 0 short_slice
+-- The answer's size is checked, and what else must hold. An answer of its size is set to place 0.
+pub record Checked (more : Bool) (ns : List ℕ) (r : Result (Unit {0}) ℕ) (ns' : List ℕ) : Type 0 where
+  pub outcome : r ≡ cond (is_answer ns && more) (Ok tt) (Err short_slice)
   pub answer : ns' ≡ told (placed 0 0) ns
 
-abbrev pub Sized : List ℕ → ℕ → List ℕ → Type 0
-Sized ns r ns' = Checked true ns r ns'
+-- The numbers of the code's answer, at their places.
+abbrev pub row_of : Answer → List ℕ
+row_of a = answer a.place a.token_type a.length a.before a.after a.exponent a.extra a.items
+
+-- What C gets of a call: the number of its refusal, or 0.
+abbrev pub number : Result (Unit {0}) ℕ → ℕ
+number (Ok x) = 0
+number (Err n) = n
 
 -- Opening.
 pub record Opening : Type 0 where
@@ -49,32 +57,24 @@ abbrev pub opening : utf8.Opened → List ℕ → Opening
 opening (utf8.opened cs) cells = record { number = 0; cells = front cs cells; answer = counted (length cs) 0 }
 opening (utf8.refused n p) cells = record { number = n; cells = cells; answer = placed p 0 }
 
--- The same of what the code answers.
-abbrev pub open_number : Answered → ℕ
-open_number (Opened t) = 0
-open_number (RefusedAt n p) = n
-
-abbrev pub open_answer : Answered → List ℕ
-open_answer (Opened t) = counted t.chars 0
-open_answer (RefusedAt n p) = placed p 0
-
 abbrev pub feel_open : List ℕ → List ℕ → List ℕ → Opening
 feel_open bytes cells ns =
     cond (is_answer ns) (opening (utf8.open_bytes bytes (length cells)) cells) (record { number = short_slice; cells = cells; answer = ns })
 
 -- What the code of a scope call answers, as a number; and the scope's numbers behind it.
-abbrev pub coded_number : Answer → ℕ
+abbrev pub coded_number : Changed → ℕ
 coded_number (Ok s) = 0
 coded_number (Err e) = number_of e
 
-abbrev pub scope_numbers : Answer → List ℕ → List ℕ
+abbrev pub scope_numbers : Changed → List ℕ → List ℕ
 scope_numbers (Ok s) ns = s.contexts ∷ s.entries ∷ s.parsed ∷ []
 scope_numbers (Err e) ns = ns
 
--- Where there is a scope to write there are three numbers for it.
-abbrev pub HasPlace : Answer → List ℕ → Type 0
-HasPlace (Ok s) ns = length ns ≡ scope_size
-HasPlace (Err e) ns = Unit {0}
+-- A call is made by a closure on the counts of a scope, where answer and scope have their sizes; what it answers is told and written. `step` says what a call of the closure answers and leaves of it.
+pub record Called {F : Type 0} (step : F → Scope → Changed → F → Type 0) (before : F) (ns scope : List ℕ) (r : Result (Unit {0}) ℕ) (ns' scope' : List ℕ) (after : F) : Type 0 where
+  pub answer : ns' ≡ told (placed 0 0) ns
+  pub missized : is_answer ns && is_scope scope ≡ false → (number r ≡ cond (is_answer ns) broken_scope short_slice) × (scope' ≡ scope) × (after ≡ before)
+  pub made : is_answer ns && is_scope scope ≡ true → (c : Changed) × step before (counts_of scope) c after × (number r ≡ coded_number c) × (scope' ≡ scope_numbers c scope)
 
 -- A scope call, by what the model answers.
 abbrev pub changed_number : calls.Changed → ℕ
@@ -124,13 +124,23 @@ read_answer (token k v) place =
     answer place k (length (cells_of (token k v))) three.before three.after three.exponent (extra_of (token k v)) 0
 read_answer (refused n c) place = placed place c
 
-abbrev pub token_of : Called → Token
+abbrev pub token_of : TokenCalled → Token
 token_of c = record { number = refusal_number c.read; lexer = lexer_numbers c.next; output = c.output; scratch = c.scratch; answer = read_answer c.read c.place }
 
 abbrev pub feel_next_token : List ℕ → List ℕ → List ℕ → List (List ℕ) → List (List ℕ) → List ℕ → List ℕ → List ℕ → Token
 feel_next_token lexer text scope slots names output scratch ns =
     cond (is_answer ns && is_lexer lexer) (token_of (next_token (lent_of scope slots names) (state_at lexer) text output scratch))
     (record { number = short_slice; lexer = lexer; output = output; scratch = zeros (length scratch); answer = told (placed 0 0) ns })
+
+-- What the code makes of numbers: a lexer in the state that they say, or none.
+abbrev pub LexerOf : List ℕ → Option Lexer → Type 0
+LexerOf ns None = is_lexer ns ≡ false
+LexerOf ns (Some l) = (is_lexer ns ≡ true) × (state_of l ≡ state_at ns)
+
+-- The answer's size was checked, and then the lexer's numbers: none is refused with 9.
+abbrev pub Ready : List ℕ → List ℕ → Result Lexer ℕ → List ℕ → Type 0
+Ready ns a (Ok l) a' = (is_answer a && is_lexer ns ≡ true) × (state_of l ≡ state_at ns) × (a' ≡ placed 0 0)
+Ready ns a (Err n) a' = (is_answer a && is_lexer ns ≡ false) × (n ≡ short_slice) × (a' ≡ told (placed 0 0) a)
 
 -- The same of the code's item.
 abbrev pub item_number : Item → ℕ

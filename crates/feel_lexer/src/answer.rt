@@ -1,68 +1,78 @@
 // The numbers that a call answers with, each at a place of its own.
 ghost use Rattle.std.specs.Prelude.{◌≡◌, length};
-ghost use Rattle.feel_lexer.specs.Numbers as spec;
-ghost use Rattle.feel_lexer.specs.Exported.{Sized};
+ghost use Rattle.feel_lexer.specs.Numbers.{answer_size};
+ghost use Rattle.feel_lexer.specs.Exported.{number, row_of, Checked};
 
 use text::refusal::Refusal;
 
+// In the order of their places, which C knows: the place of the refusal or token, the token type, the length of a text, value or store,
+// a number's three lengths, the extra number of an item, and how many items there are.
 #[derive(Clone, Copy)]
-pub struct Answer {}
+pub struct Answer {
+    pub place: usize,
+    pub token_type: usize,
+    pub length: usize,
+    pub before: usize,
+    pub after: usize,
+    pub exponent: usize,
+    pub extra: usize,
+    pub items: usize,
+}
 
 impl Answer {
-    // How many numbers there are, and the place of each.
     pub const SIZE: usize = 8;
 
-    pub const PLACE: usize = 0;
+    // At place 0, and nothing more.
+    pub const EMPTY: Answer = Answer {
+        place: 0,
+        token_type: 0,
+        length: 0,
+        before: 0,
+        after: 0,
+        exponent: 0,
+        extra: 0,
+        items: 0,
+    };
 
-    pub const TYPE: usize = 1;
-
-    pub const LENGTH: usize = 2;
-
-    pub const BEFORE: usize = 3;
-
-    pub const AFTER: usize = 4;
-
-    pub const EXPONENT: usize = 5;
-
-    pub const EXTRA: usize = 6;
-
-    pub const ITEMS: usize = 7;
-}
-
-// Writes a row of numbers over as many others.
-pub fn put(numbers: &mut [usize], row: &[usize])
-    requires { length numbers.old ≡ length row.now }
-    ensures { numbers.new ≡ row.now }
-{
-    let mut i: usize = 0;
-    while i < row.len() {
-        numbers[i] = row[i];
-        i += 1;
+    // Writes the numbers to their places.
+    pub fn write(self, numbers: &mut [usize])
+        requires { length numbers.old ≡ answer_size }
+        ensures { numbers.new ≡ row_of self }
+    {
+        numbers.copy_from_slice(&[
+            self.place,
+            self.token_type,
+            self.length,
+            self.before,
+            self.after,
+            self.exponent,
+            self.extra,
+            self.items,
+        ]);
     }
 }
 
-// A place, with the carry of a refusal.
-pub fn placed(place: usize, carry: usize) -> [usize; Answer::SIZE]
-    ensures { result ≡ spec.placed place carry }
+// The number that C gets: that of the refusal, or 0.
+pub fn number(outcome: Result<(), u32>) -> u32
+    ensures { result ≡ number outcome }
 {
-    [place, 0, 0, 0, 0, 0, carry, 0]
+    match outcome {
+        Ok(()) => 0,
+        Err(refusal) => refusal,
+    }
 }
 
-// So many characters or value cells, and items.
-pub fn counted(length: usize, items: usize) -> [usize; Answer::SIZE]
-    ensures { result ≡ spec.counted length items }
-{
-    [0, 0, length, 0, 0, 0, 0, items]
-}
-
-// The refusal of an answer that is not of its size; 0 is none. One of its size is set to place 0.
-pub fn sized(answer: &mut [usize]) -> u32
-    ensures { Sized answer.old result answer.new }
+// Refuses an answer that is not of its size, and what else does not hold. One of its size is set to place 0.
+pub fn checked(answer: &mut [usize], more: bool) -> Result<(), u32>
+    ensures { Checked more answer.old result answer.new }
 {
     if answer.len() != Answer::SIZE {
-        return Refusal::SHORT_SLICE;
+        return Err(Refusal::SHORT_SLICE);
     }
-    let row = placed(0, 0);
-    put(answer, &row);
-    Refusal::NONE
+    Answer::EMPTY.write(answer);
+    if more {
+        Ok(())
+    } else {
+        Err(Refusal::SHORT_SLICE)
+    }
 }

@@ -8,8 +8,5 @@ ghost use Rattle.feel_lexer.specs.FunctionNames as spec;
 pub extern "C" fn feel_is_built_in_function_name(name: &[u32]) -> u32
     ensures { result ≡ spec.feel_is_built_in_function_name name.now }
 {
-    if functions::functions::is_built_in_function_name(name) {
-        return 1;
-    }
-    0
+    u32::from(functions::functions::is_built_in_function_name(name))
 }

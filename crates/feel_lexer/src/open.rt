@@ -1,28 +1,32 @@
 // Bytes opened to one cell a character.
-ghost use Rattle.std.specs.Prelude.{◌≡◌, length};
-ghost use Rattle.feel_lexer.specs.Numbers.{answer_size};
+ghost use Rattle.std.specs.Prelude.{◌≡◌};
 ghost use Rattle.feel_lexer.specs.Exported as spec;
 
 use crate::answer;
 use crate::answer::Answer;
-use text::refusal::Refusal;
 use text::utf8::Opening;
 
-// Writes what opening answered: how many characters there are, or the place of a refusal.
-fn after(opening: Opening, answer: &mut [usize]) -> u32
-    requires { length answer.old ≡ answer_size }
-    ensures { (result ≡ spec.open_number opening) × (answer.new ≡ spec.open_answer opening) }
+// Opens the bytes, and writes how many characters there are, or the place of a refusal.
+fn opened(bytes: &[u8], cells: &mut [u32], answer: &mut [usize]) -> Result<(), u32>
+    ensures { spec.feel_open bytes.now cells.old answer.old ≡ record { number = spec.number result; cells = cells.new; answer = answer.new } }
 {
-    match opening {
+    answer::checked(answer, true)?;
+    match text::utf8::open_bytes(bytes, cells) {
         Opening::Opened(t) => {
-            let row = answer::counted(t.chars, 0);
-            answer::put(answer, &row);
-            Refusal::NONE
+            Answer {
+                length: t.chars,
+                ..Answer::EMPTY
+            }
+            .write(answer);
+            Ok(())
         }
         Opening::Refused(n, place) => {
-            let row = answer::placed(place, 0);
-            answer::put(answer, &row);
-            n
+            Answer {
+                place,
+                ..Answer::EMPTY
+            }
+            .write(answer);
+            Err(n)
         }
     }
 }
@@ -33,9 +37,5 @@ fn after(opening: Opening, answer: &mut [usize]) -> u32
 pub extern "C" fn feel_open(bytes: &[u8], cells: &mut [u32], answer: &mut [usize]) -> u32
     ensures { spec.feel_open bytes.now cells.old answer.old ≡ record { number = result; cells = cells.new; answer = answer.new } }
 {
-    if answer.len() != Answer::SIZE {
-        return Refusal::SHORT_SLICE;
-    }
-    let opening = text::utf8::open_bytes(bytes, cells);
-    after(opening, answer)
+    answer::number(opened(bytes, cells, answer))
 }

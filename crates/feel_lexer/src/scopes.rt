@@ -1,24 +1,35 @@
 // The scope calls. Each leaves the answer at place 0.
+#![tactic(auto, using(crate::proofs::ScopeLaws::not_three_broken))]
+
 ghost use Rattle.std.specs.Prelude.{◌≡◌};
 ghost use Rattle.scope.specs.Calls as spec;
 ghost use Rattle.scope.specs.Lent.{push_list, set_context_list};
-ghost use Rattle.feel_lexer.specs.Exported.{HasPlace, coded_number, scope_numbers, ScopeCall, ScopeOpened};
+ghost use Rattle.feel_lexer.specs.Exported.{Called, ScopeCall, ScopeOpened};
 
 use crate::{answer, state};
 use scope::scope::{Listed, Scope, Slot};
 use text::refusal::Refusal;
 
-// Writes the scope that a call gave; a refused one leaves it.
-fn after(r: Result<Scope, Refusal>, scope: &mut [usize]) -> u32
-    requires { HasPlace r scope.old }
-    ensures { (result ≡ coded_number r) × (scope.new ≡ scope_numbers r scope.old) }
+// Makes a call on the counts of a scope and writes those that it gives; a refused one leaves them.
+// The closure is lent: what it wrote through its captures is known behind it.
+fn called<F: FnMut(Scope) -> Result<Scope, Refusal>>(
+    scope: &mut [usize],
+    answer: &mut [usize],
+    call: &mut F,
+) -> Result<(), u32>
+    requires { F.IsAlwaysCallable call.old }
+    ensures { Called F.step call.old answer.old scope.old result answer.new scope.new call.new }
 {
-    match r {
+    answer::checked(answer, true)?;
+    if scope.len() != state::SCOPE_SIZE {
+        return Err(Refusal::BROKEN_SCOPE);
+    }
+    match call(state::scope_of(scope)) {
         Ok(s) => {
             state::put_scope(scope, s);
-            Refusal::NONE
+            Ok(())
         }
-        Err(e) => u32::from(e),
+        Err(refusal) => Err(u32::from(refusal)),
     }
 }
 
@@ -28,15 +39,7 @@ fn after(r: Result<Scope, Refusal>, scope: &mut [usize]) -> u32
 pub extern "C" fn feel_scope_opened(scope: &mut [usize], answer: &mut [usize]) -> u32
     ensures { ScopeOpened answer.old scope.old result answer.new scope.new }
 {
-    let n = answer::sized(answer);
-    if 0 < n {
-        return n;
-    }
-    if scope.len() != state::SCOPE_SIZE {
-        return Refusal::BROKEN_SCOPE;
-    }
-    state::put_scope(scope, Scope::opened());
-    Refusal::NONE
+    answer::number(called(scope, answer, &mut |_| Ok(Scope::opened())))
 }
 
 // Pushes an empty context.
@@ -50,13 +53,11 @@ pub extern "C" fn feel_scope_push_default(
 ) -> u32
     ensures { ScopeCall (spec.push_default) answer.old scope.old slots.now names.now result answer.new scope.new slots.now names.now }
 {
-    let n = answer::sized(answer);
-    if 0 < n {
-        return n;
-    }
-    let s = state::scope_of(scope);
-    let r = scope_calls::stack::push_default(s, slots, names);
-    after(r, scope)
+    answer::number(called(
+        scope,
+        answer,
+        &mut |s| scope_calls::stack::push_default(s, slots, names),
+    ))
 }
 
 // Pushes an entry list as one context.
@@ -72,13 +73,11 @@ pub extern "C" fn feel_scope_push(
 ) -> u32
     ensures { ScopeCall (push_list cells.now list.now) answer.old scope.old slots.old names.old result answer.new scope.new slots.new names.new }
 {
-    let n = answer::sized(answer);
-    if 0 < n {
-        return n;
-    }
-    let s = state::scope_of(scope);
-    let r = scope_calls::push::push(s, slots, names, list, cells);
-    after(r, scope)
+    answer::number(called(
+        scope,
+        answer,
+        &mut |s| scope_calls::push::push(s, slots, names, list, cells),
+    ))
 }
 
 // Pops the last context; the parsed names stay.
@@ -92,13 +91,11 @@ pub extern "C" fn feel_scope_pop(
 ) -> u32
     ensures { ScopeCall (spec.pop) answer.old scope.old slots.now names.now result answer.new scope.new slots.now names.now }
 {
-    let n = answer::sized(answer);
-    if 0 < n {
-        return n;
-    }
-    let s = state::scope_of(scope);
-    let r = scope_calls::stack::pop(s, slots, names);
-    after(r, scope)
+    answer::number(called(
+        scope,
+        answer,
+        &mut |s| scope_calls::stack::pop(s, slots, names),
+    ))
 }
 
 // Names a variable in the last context.
@@ -113,13 +110,11 @@ pub extern "C" fn feel_scope_set_entry_name(
 ) -> u32
     ensures { ScopeCall (spec.set_entry_name name.now) answer.old scope.old slots.old names.old result answer.new scope.new slots.new names.new }
 {
-    let n = answer::sized(answer);
-    if 0 < n {
-        return n;
-    }
-    let s = state::scope_of(scope);
-    let r = scope_calls::naming::set_entry_name(s, slots, names, name);
-    after(r, scope)
+    answer::number(called(
+        scope,
+        answer,
+        &mut |s| scope_calls::naming::set_entry_name(s, slots, names, name),
+    ))
 }
 
 // Names a context with its entry list in the last context.
@@ -136,13 +131,11 @@ pub extern "C" fn feel_scope_set_context(
 ) -> u32
     ensures { ScopeCall (set_context_list name.now cells.now list.now) answer.old scope.old slots.old names.old result answer.new scope.new slots.new names.new }
 {
-    let n = answer::sized(answer);
-    if 0 < n {
-        return n;
-    }
-    let s = state::scope_of(scope);
-    let r = scope_calls::naming::set_context(s, slots, names, name, list, cells);
-    after(r, scope)
+    answer::number(called(
+        scope,
+        answer,
+        &mut |s| scope_calls::naming::set_context(s, slots, names, name, list, cells),
+    ))
 }
 
 // Adds a name to the parsed ones.
@@ -157,11 +150,9 @@ pub extern "C" fn feel_scope_add_parsed_name(
 ) -> u32
     ensures { ScopeCall (spec.add_parsed_name name.now) answer.old scope.old slots.old names.old result answer.new scope.new slots.new names.new }
 {
-    let n = answer::sized(answer);
-    if 0 < n {
-        return n;
-    }
-    let s = state::scope_of(scope);
-    let r = scope_calls::parsed::add_parsed_name(s, slots, names, name);
-    after(r, scope)
+    answer::number(called(
+        scope,
+        answer,
+        &mut |s| scope_calls::parsed::add_parsed_name(s, slots, names, name),
+    ))
 }

@@ -1,35 +1,32 @@
 // Scope and lexer as they are lent: a few numbers each.
-ghost use Rattle.std.specs.Prelude.{◌≡◌, true, cond, [], ◌∷◌, length};
+ghost use Rattle.std.specs.Prelude.{◌≡◌, [], ◌∷◌, length};
 ghost use Rattle.tokens.specs.CalledBy.{state_of};
 ghost use Rattle.feel_lexer.specs.Numbers as spec;
+ghost use Rattle.feel_lexer.specs.Exported.{LexerOf};
 
-use crate::answer;
 use lexer::flags::Flags;
 use runs::item;
 use scope::scope::Scope;
 use tokens::call::Lexer;
 
-// Position, flags, whether a start token is due (0 or 1), and of which type (0 where none is).
-const LEXER_SIZE: usize = 4;
-
 // Contexts, entries, parsed names.
 pub const SCOPE_SIZE: usize = 3;
 
-// The counts of a scope. More or fewer numbers are taken for more contexts than there may be, which every call refuses.
+// The counts of a scope. More or fewer numbers are taken for more contexts than there may be, which every call refuses behind what comes before a broken scope.
 pub fn scope_of(numbers: &[usize]) -> Scope
     ensures { result ≡ spec.counts_of numbers.now }
 {
-    if numbers.len() == SCOPE_SIZE {
-        return Scope {
-            contexts: numbers[0],
-            entries: numbers[1],
-            parsed: numbers[2],
-        };
-    }
-    Scope {
-        contexts: Scope::MAX_CONTEXTS + 1,
-        entries: 0,
-        parsed: 0,
+    match *numbers {
+        [contexts, entries, parsed] => Scope {
+            contexts,
+            entries,
+            parsed,
+        },
+        _ => Scope {
+            contexts: Scope::MAX_CONTEXTS + 1,
+            entries: 0,
+            parsed: 0,
+        },
     }
 }
 
@@ -37,57 +34,31 @@ pub fn put_scope(numbers: &mut [usize], s: Scope)
     requires { length numbers.old ≡ spec.scope_size }
     ensures { numbers.new ≡ s.contexts ∷ s.entries ∷ s.parsed ∷ [] }
 {
-    let row = [s.contexts, s.entries, s.parsed];
-    answer::put(numbers, &row);
+    numbers.copy_from_slice(&[s.contexts, s.entries, s.parsed]);
 }
 
-// Whether a start token that is due or not goes with a start type; where none is due it is 0.
-fn is_pending(pending: usize, start_type: usize) -> bool
-    ensures { result ≡ spec.is_pending pending start_type }
+#[tactic(auto, unfolding(crate::specs::Numbers::is_lexer))]
+// The lexer of which these are the numbers; where no start token is due, its type is 0.
+pub fn lexer_of(numbers: &[usize]) -> Option<Lexer>
+    ensures { LexerOf numbers.now result }
 {
-    if pending == 0 {
-        return start_type == 0;
+    let [position, flags, pending, start_type] = *numbers else {
+        return None;
+    };
+    if (Flags::ALL as usize) < flags {
+        return None;
     }
-    pending == 1
-}
-
-// Whether the numbers are those of a lexer.
-pub fn is_lexer(numbers: &[usize]) -> bool
-    ensures { result ≡ spec.is_lexer numbers.now }
-{
-    if numbers.len() != LEXER_SIZE {
-        return false;
-    }
-    if (Flags::ALL as usize) < numbers[1] {
-        return false;
-    }
-    if 4_294_967_295 < numbers[3] {
-        return false;
-    }
-    is_pending(numbers[2], numbers[3])
-}
-
-pub fn lexer_of(numbers: &[usize]) -> Lexer
-    requires { spec.is_lexer numbers.now ≡ true }
-    ensures { state_of result ≡ spec.state_at numbers.now }
-{
-    let flags = item::bit_flags(numbers[1] as u32);
-    Lexer {
-        position: numbers[0],
-        flags,
-        pending: numbers[2] == 1,
-        start_type: numbers[3] as u32,
-    }
-}
-
-// n where b holds, or 0.
-fn where_so(b: bool, n: usize) -> usize
-    ensures { result ≡ cond b n 0 }
-{
-    if b {
-        return n;
-    }
-    0
+    let pending = match (pending, start_type) {
+        (0, 0) => false,
+        (1, _) => true,
+        _ => return None,
+    };
+    Some(Lexer {
+        position,
+        flags: item::bit_flags(flags as u32),
+        pending,
+        start_type: u32::try_from(start_type).ok()?,
+    })
 }
 
 pub fn put_lexer(numbers: &mut [usize], l: Lexer)
@@ -95,8 +66,6 @@ pub fn put_lexer(numbers: &mut [usize], l: Lexer)
     ensures { numbers.new ≡ spec.lexer_numbers (state_of l) }
 {
     let flags = item::flag_bits(l.flags) as usize;
-    let pending = where_so(l.pending, 1);
-    let start = where_so(l.pending, l.start_type as usize);
-    let row = [l.position, flags, pending, start];
-    answer::put(numbers, &row);
+    let start = if l.pending { l.start_type as usize } else { 0 };
+    numbers.copy_from_slice(&[l.position, flags, usize::from(l.pending), start]);
 }

@@ -1,45 +1,51 @@
 // The token call.
 ghost use Rattle.std.specs.Prelude.{◌≡◌, length};
-ghost use Rattle.feel_lexer.specs.Numbers.{answer_size, is_lexer};
+ghost use Rattle.feel_lexer.specs.Numbers.{answer_size};
 ghost use Rattle.feel_lexer.specs.Exported as spec;
 
+use crate::answer::Answer;
 use crate::{answer, state};
+use runs::call;
 use runs::item::Item;
-use runs::{call, cell};
 use scope::scope::{Scope, Slot};
 use text::refusal::Refusal;
+use tokens::call::Lexer;
 
-// The refusal of an answer and a lexer; 0 is none. An answer of its size is set to place 0.
-fn shapes(lexer: &[usize], answer: &mut [usize]) -> u32
-    ensures { spec.Checked (is_lexer lexer.now) answer.old result answer.new }
+// The lexer of which these are the numbers, where the answer has its size; it is set to place 0.
+fn ready(lexer: &[usize], answer: &mut [usize]) -> Result<Lexer, u32>
+    ensures { spec.Ready lexer.now answer.old result answer.new }
 {
-    let n = answer::sized(answer);
-    if 0 < n {
-        return n;
-    }
-    if state::is_lexer(lexer) {
-        return Refusal::NONE;
-    }
-    Refusal::SHORT_SLICE
+    answer::checked(answer, true)?;
+    state::lexer_of(lexer).ok_or(Refusal::SHORT_SLICE)
 }
 
-// Writes the answer of an item, its token or its refusal; the number of a refusal is given back, or 0.
-fn put_item(i: Item, answer: &mut [usize]) -> u32
+// Writes the answer of an item: its token, or the place and the carry of its refusal.
+fn put_item(i: Item, answer: &mut [usize]) -> Result<(), u32>
     requires { length answer.old ≡ answer_size }
-    ensures { (result ≡ spec.item_number i) × (answer.new ≡ spec.item_answer i) }
+    ensures { (spec.number result ≡ spec.item_number i) × (answer.new ≡ spec.item_answer i) }
 {
-    let extra = cell::wide(i.extra);
+    let extra = i.extra as usize;
     if i.is_refusal {
-        let row = answer::placed(i.position, extra);
-        answer::put(answer, &row);
-        return i.number;
+        Answer {
+            place: i.position,
+            extra,
+            ..Answer::EMPTY
+        }
+        .write(answer);
+        return Err(i.number);
     }
-    let number = cell::wide(i.number);
-    let row = [
-        i.position, number, i.length, i.before, i.after, i.exponent, extra, 0,
-    ];
-    answer::put(answer, &row);
-    Refusal::NONE
+    Answer {
+        place: i.position,
+        token_type: i.number as usize,
+        length: i.length,
+        before: i.before,
+        after: i.after,
+        exponent: i.exponent,
+        extra,
+        items: 0,
+    }
+    .write(answer);
+    Ok(())
 }
 
 // The next token of a text: its value fills the output's front, and the lexer's numbers are those of the state after it.
@@ -58,18 +64,17 @@ pub extern "C" fn feel_next_token(
     ensures { spec.feel_next_token lexer.old text.now scope.now slots.now names.now out.old scratch.old answer.old
         ≡ record { number = result; lexer = lexer.new; output = out.new; scratch = scratch.new; answer = answer.new } }
 {
-    let n = shapes(lexer, answer);
-    if 0 < n {
-        call::clear(scratch);
-        return n;
+    match ready(lexer, answer) {
+        Ok(l) => {
+            let s = state::scope_of(scope);
+            let c = tokens::call::next_token(l, text, s, slots, names, out, scratch);
+            state::put_lexer(lexer, c.next);
+            let item = Item::new(c.read, c.place, c.next.flags, 0);
+            answer::number(put_item(item, answer))
+        }
+        Err(refusal) => {
+            call::clear(scratch);
+            refusal
+        }
     }
-    let l = state::lexer_of(lexer);
-    let s = state::scope_of(scope);
-    let c = tokens::call::next_token(l, text, s, slots, names, out, scratch);
-    let next = c.next;
-    let flags = next.flags;
-    let read = c.read;
-    state::put_lexer(lexer, next);
-    let i = Item::new(read, c.place, flags, 0);
-    put_item(i, answer)
 }
