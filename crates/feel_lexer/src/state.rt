@@ -48,16 +48,15 @@ pub fn lexer_of(numbers: &[usize]) -> Option<Lexer>
     if (Flags::ALL as usize) < flags {
         return None;
     }
-    let pending = match (pending, start_type) {
-        (0, 0) => false,
-        (1, _) => true,
+    let due = match (pending, start_type) {
+        (0, 0) => None,
+        (1, k) => Some(u32::try_from(k).ok()?),
         _ => return None,
     };
     Some(Lexer {
         position,
         flags: item::bit_flags(flags as u32),
-        pending,
-        start_type: u32::try_from(start_type).ok()?,
+        due,
     })
 }
 
@@ -66,6 +65,9 @@ pub fn put_lexer(numbers: &mut [usize], l: Lexer)
     ensures { numbers.new ≡ spec.lexer_numbers (state_of l) }
 {
     let flags = item::flag_bits(l.flags) as usize;
-    let start = if l.pending { l.start_type as usize } else { 0 };
-    numbers.copy_from_slice(&[l.position, flags, usize::from(l.pending), start]);
+    let (pending, start) = match l.due {
+        Some(start_type) => (1, start_type as usize),
+        None => (0, 0),
+    };
+    numbers.copy_from_slice(&[l.position, flags, pending, start]);
 }

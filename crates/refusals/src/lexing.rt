@@ -21,8 +21,7 @@ fn state(position: usize, pending: bool) -> Lexer {
     Lexer {
         position,
         flags,
-        pending,
-        start_type: TokenType::START_EXPRESSION,
+        due: pending.then_some(TokenType::START_EXPRESSION),
     }
 }
 
@@ -71,7 +70,7 @@ fn value_cells(r: Read) -> usize {
 fn state_after(rt: &impl Print, l: Lexer) -> io::Result<()> {
     told::number(rt, b"; position ", l.position)?;
     told::number(rt, b", flags ", item::flag_bits(l.flags) as usize)?;
-    if l.pending {
+    if l.due.is_some() {
         return say::words(rt, b", start due");
     }
     say::words(rt, b", no start due")

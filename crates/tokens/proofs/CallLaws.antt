@@ -5,14 +5,14 @@ use mathlib.Core.Bool.{Bool, true, false, cond, ◌||◌}
 use mathlib.Core.List.{List, append-nil}
 use Prim.Native.Nat.{ℕ, ◌+◌, ◌-◌, ◌*◌, ◌≤◌, ◌<◌}
 use native.Mathlib.Omega.{arith}
-use lib.Dec.{ltb, leb}
-use borrow.Author.Tests.{lt-ltb, le-ltb, leb-true, ltb-false}
+use lib.Dec.{ltb}
+use borrow.Author.Tests.{lt-ltb, le-ltb, ltb-false}
 use lib.ListN.{length, take, drop, length-drop, drop_of_length-le}
 use lib.Seq.{take_all}
 use Rattle.reading.specs.Look.{run}
-use Rattle.reading.specs.Cells.{is_one_of, maybe}
+use Rattle.reading.specs.Cells.{maybe}
 use Rattle.reading.specs.Slices.{zeros, Wrote}
-use Rattle.reading.proofs.Test.{by_test, every, below}
+use Rattle.reading.proofs.Test.{by_test}
 use Rattle.text.specs.Limits.{max_chars}
 use Rattle.text.specs.Refusals.{too_long, short_slice, broken_scope, beyond_text}
 use Rattle.scope.specs.Entries.{ParsingScope}
@@ -21,7 +21,6 @@ use Rattle.scope.specs.Lent.{Lent, is_broken, scope_of}
 use Rattle.lexer.specs.Lexer as spec
 use Rattle.lexer.specs.Lexer.{State, start_types, step, next_token}
 use Rattle.lexer.specs.Token.{read_token}
-use Rattle.lexer.specs.TokenType
 use Rattle.lexer.specs.FlagsOf.{flags_of}
 use Rattle.lexer.specs.Fit.{Clear}
 use Rattle.lexer.specs.Taken.{Taken}
@@ -29,26 +28,10 @@ use Rattle.tokens.specs.CalledBy.{state_of, refusal_of, Stepped, CalledBy, stand
 use Rattle.tokens.specs.declared.call.Lexer.{Lexer}
 use Rattle.tokens.specs.declared.call.Called.{Called}
 use Rattle.lexer.specs.declared.token.Outcome.{Outcome}
-use Rattle.lexer.specs.declared.token.Read.TheVariants.{Plain, Refused}
+use Rattle.lexer.specs.declared.token.Read.TheVariants.{Refused}
 use Rattle.naming.proofs.PrefixLaws.{length-zeros}
 use Rattle.lexer.proofs.TokenFacts.{sound}
 use Rattle.lexer.proofs.AnsweredLaws.{Typed, formed_typed, says_coded}
-
--- The nine start types are in a row.
-not_start : (k : ℕ) → (is_one_of start_types k ≡ true → ⊥) → TokenType.YyError ≡ cond (is_one_of start_types k) k TokenType.YyError
-not_start k g = by_test (λ n. TokenType.YyError ≡ n) (is_one_of start_types k) (λ h. absurd (g h)) (λ _. refl)
-
-pub start_low : (k : ℕ) → k < 258 → TokenType.YyError ≡ cond (is_one_of start_types k) k TokenType.YyError
-start_low k h = not_start k (λ g. let l = leb-true 258 k (every (λ c. leb 258 c) start_types k refl g) in omega arith)
-
-pub start_high : (k : ℕ) → 266 < k → TokenType.YyError ≡ cond (is_one_of start_types k) k TokenType.YyError
-start_high k h = not_start k (λ g. let l = leb-true k 266 (every (λ c. leb c 266) start_types k refl g) in omega arith)
-
-pub start_in : (k : ℕ) → 258 ≤ k → k ≤ 266 → k ≡ cond (is_one_of start_types k) k TokenType.YyError
-start_in k h l =
-    let e : 258 + (k - 258) ≡ k = omega arith in
-    let g : is_one_of start_types k ≡ true = rw e at (below (λ j. is_one_of start_types (258 + j)) 9 refl (k - 258) (omega arith)) in
-    rw g
 
 -- The refusals of the host, in their order.
 module _ (l : Lent) (p n output scratch : ℕ) where
@@ -86,11 +69,6 @@ accepted l p n output scratch = go (ltb max_chars n) refl (ltb n p) refl (is_bro
     go false x false y false z false v true w h = absurd (omega arith)
     go false x false y false z false v false w h = (ltb-false max_chars n x, ltb-false n p y, z, ltb-false output n v, ltb-false scratch (2 * n) w)
 
--- A start token is due.
-pub step_start : (scope : ParsingScope) (l : Lexer) (t o : List ℕ) → l.pending ≡ true → {k : ℕ} → k ≡ cond (is_one_of start_types l.start_type) l.start_type TokenType.YyError
-    → Stepped (step scope (state_of l) t) o (record { read = Plain k; place = l.position; next = record { position = l.position; flags = l.flags; pending = false; start_type = 0 } }) o
-step_start scope l t o e p = rw e (record { read = ap Plain p; place = refl; next = refl; left = refl })
-
 -- The token from the position on.
 module _ (scope : ParsingScope) (l : Lexer) (t : List ℕ) {o o' : List ℕ} {r : Outcome} (x : Taken (take (length t - l.position) (drop l.position t)) (is_name scope) (flags_of l.flags) o r o') where
   rest_whole : take (length t - l.position) (drop l.position t) ≡ drop l.position t
@@ -104,8 +82,8 @@ module _ (scope : ParsingScope) (l : Lexer) (t : List ℕ) {o o' : List ℕ} {r 
       let s = sound (is_name scope) (flags_of l.flags) (drop l.position t) (rw length-drop (omega arith)) in
       omega (arith, ap (λ y. y.answer.used) rest-taken.sees.same, s.in_text, length-drop l.position t)
 
-  pub step_token : l.pending ≡ false
-      → Stepped (step scope (state_of l) t) o (record { read = r.read; place = l.position + r.used; next = record { position = l.position + r.used; flags = r.flags; pending = false; start_type = 0 } }) o'
+  pub step_token : l.due ≡ None
+      → Stepped (step scope (state_of l) t) o (record { read = r.read; place = l.position + r.used; next = record { position = l.position + r.used; flags = r.flags; due = None } }) o'
   step_token e =
       let s = ap (λ y. y.answer) rest-taken.sees.same in
       rw (e, s) (record { read = rest-taken.shown; place = refl; next = refl; left = rest-taken.left })

@@ -1,5 +1,5 @@
 -- What the code of the token call answers and leaves, in the terms of the definitions.
-use Rattle.std.specs.Prelude.{◌≡◌, cond, ◌||◌, List, ℕ, ◌*◌, ltb, None, Some}
+use Rattle.std.specs.Prelude.{◌≡◌, cond, ◌||◌, List, ℕ, ◌*◌, ltb}
 use Rattle.reading.specs.Slices.{front}
 use Rattle.text.specs.Limits.{max_chars}
 use Rattle.text.specs.Refusals.{too_long, short_slice, broken_scope, beyond_text}
@@ -14,9 +14,9 @@ use Rattle.lexer.specs.declared.token.Read.{Read}
 use Rattle.tokens.specs.declared.call.Lexer.{Lexer}
 use Rattle.tokens.specs.declared.call.Called.{Called}
 
--- The state that a lexer stands for. Where no start token is due, its start type is free.
+-- The state that a lexer stands for.
 abbrev pub state_of : Lexer → State
-state_of l = state l.position (flags_of l.flags) (cond l.pending (Some l.start_type) None)
+state_of l = state l.position (flags_of l.flags) l.due
 
 -- The refusal by the host of a call at position p of a text of n characters; 0 is none.
 abbrev pub refusal_of : Lent → ℕ → ℕ → ℕ → ℕ → ℕ

@@ -4,13 +4,13 @@ ghost use Rattle.reading.specs.Cells.{is_one_of};
 ghost use Rattle.text.specs.Limits.{max_chars};
 ghost use Rattle.scope.specs.Lent.{is_broken, scope_of};
 ghost use Rattle.scope.specs.Answers.{lent};
-ghost use Rattle.lexer.specs.Flags as flag;
 ghost use Rattle.lexer.specs.Lexer as spec;
 ghost use Rattle.lexer.specs.TokenType as type;
+ghost use Rattle.lexer.specs.FlagsOf.{flag_named};
 ghost use Rattle.lexer.specs.Fit.{Clear};
 ghost use Rattle.tokens.specs.CalledBy.{state_of, refusal_of, Stepped, CalledBy};
 
-use lexer::flags::Flags;
+use lexer::flags::{Flag, Flags};
 use lexer::token::Read;
 use lexer::token_type::TokenType;
 use scope::lent::Sound;
@@ -18,13 +18,12 @@ use scope::scope::{Scope, Slot};
 use text::refusal::Refusal;
 use text::utf8::Text;
 
-// Position, flags, and whether a start token is due, of which type.
+// Position, flags, and the type of the start token, if one is due.
 #[derive(Clone, Copy)]
 pub struct Lexer {
     pub position: usize,
     pub flags: Flags,
-    pub pending: bool,
-    pub start_type: u32,
+    pub due: Option<u32>,
 }
 
 impl Lexer {
@@ -35,107 +34,19 @@ impl Lexer {
     {
         Lexer {
             position: 0,
-            flags: Flags {
-                unary_tests: false,
-                between: false,
-                type_name: false,
-                till_in: false,
-                after_dot: false,
-            },
-            pending: true,
-            start_type,
+            flags: Flags::default(),
+            due: Some(start_type),
         }
     }
 
-    // The setters set one flag and clear none.
-    // Ruled out, among others, of each of the five: another flag set with it; the start token taken for read.
-    pub fn set_unary_tests(self) -> Lexer
-        ensures { state_of result ≡ spec.set flag.UnaryTests (state_of self) }
+    // Sets one flag and clears none.
+    // Ruled out, among others: another flag set with it; the start token taken for read.
+    pub fn set(self, flag: Flag) -> Lexer
+        ensures { state_of result ≡ spec.set (flag_named flag) (state_of self) }
     {
-        let f = self.flags;
         Lexer {
-            position: self.position,
-            flags: Flags {
-                unary_tests: true,
-                between: f.between,
-                type_name: f.type_name,
-                till_in: f.till_in,
-                after_dot: f.after_dot,
-            },
-            pending: self.pending,
-            start_type: self.start_type,
-        }
-    }
-
-    pub fn set_between(self) -> Lexer
-        ensures { state_of result ≡ spec.set flag.Between (state_of self) }
-    {
-        let f = self.flags;
-        Lexer {
-            position: self.position,
-            flags: Flags {
-                unary_tests: f.unary_tests,
-                between: true,
-                type_name: f.type_name,
-                till_in: f.till_in,
-                after_dot: f.after_dot,
-            },
-            pending: self.pending,
-            start_type: self.start_type,
-        }
-    }
-
-    pub fn set_type_name(self) -> Lexer
-        ensures { state_of result ≡ spec.set flag.TypeName (state_of self) }
-    {
-        let f = self.flags;
-        Lexer {
-            position: self.position,
-            flags: Flags {
-                unary_tests: f.unary_tests,
-                between: f.between,
-                type_name: true,
-                till_in: f.till_in,
-                after_dot: f.after_dot,
-            },
-            pending: self.pending,
-            start_type: self.start_type,
-        }
-    }
-
-    pub fn set_till_in(self) -> Lexer
-        ensures { state_of result ≡ spec.set flag.TillIn (state_of self) }
-    {
-        let f = self.flags;
-        Lexer {
-            position: self.position,
-            flags: Flags {
-                unary_tests: f.unary_tests,
-                between: f.between,
-                type_name: f.type_name,
-                till_in: true,
-                after_dot: f.after_dot,
-            },
-            pending: self.pending,
-            start_type: self.start_type,
-        }
-    }
-
-    pub fn set_after_dot(self) -> Lexer
-        ensures { state_of result ≡ spec.set flag.AfterDot (state_of self) }
-    {
-        let f = self.flags;
-        Lexer {
-            position: self.position,
-            flags: Flags {
-                unary_tests: f.unary_tests,
-                between: f.between,
-                type_name: f.type_name,
-                till_in: f.till_in,
-                after_dot: true,
-            },
-            pending: self.pending,
-            start_type: self.start_type,
+            flags: self.flags.set(flag),
+            ..self
         }
     }
 }
@@ -152,13 +63,10 @@ pub struct Called {
 pub fn start_number(k: u32) -> u32
     ensures { result ≡ cond (is_one_of spec.start_types k) k type.YyError }
 {
-    if k < TokenType::START_EXPRESSION {
-        return TokenType::YY_ERROR;
+    match k {
+        TokenType::START_EXPRESSION..=TokenType::START_RANGE_LITERAL => k,
+        _ => TokenType::YY_ERROR,
     }
-    if TokenType::START_RANGE_LITERAL < k {
-        return TokenType::YY_ERROR;
-    }
-    k
 }
 
 // The refusal of a call at a position of a text of n characters, where so many cells of output and scratch are lent; 0 is none.
@@ -207,37 +115,28 @@ fn step(
         × (scratch.new ≡ scratch.old) }
 {
     let p = l.position;
-    let f = l.flags;
-    if l.pending {
-        let k = start_number(l.start_type);
+    if let Some(k) = l.due {
         return Called {
-            read: Read::Plain(k),
+            read: Read::Plain(start_number(k)),
             place: p,
-            next: Lexer {
-                position: p,
-                flags: f,
-                pending: false,
-                start_type: 0,
-            },
+            next: Lexer { due: None, ..l },
         };
     }
-    let cap = search::longest::longest_key(Sound {
+    let scope = Sound {
         counts: s,
         slots,
         names,
-    });
-    let o = crate::token::read_token(&text[p..], f, s, slots, names, cap, out, scratch);
-    let read = o.read;
-    let used = o.used;
-    let flags = o.flags;
+    };
+    let cap = search::longest::longest_key(scope);
+    let o = crate::token::read_token(&text[p..], l.flags, s, slots, names, cap, out, scratch);
+    let place = p + o.used;
     Called {
-        read,
-        place: p + used,
+        read: o.read,
+        place,
         next: Lexer {
-            position: p + used,
-            flags,
-            pending: false,
-            start_type: 0,
+            position: place,
+            flags: o.flags,
+            due: None,
         },
     }
 }

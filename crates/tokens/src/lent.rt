@@ -1,46 +1,23 @@
 // A lexer lent to be changed: each method takes the state out, calls the function by value, and puts the new state back.
 ghost use Rattle.std.specs.Prelude.{◌≡◌};
 ghost use Rattle.scope.specs.Answers.{lent};
-ghost use Rattle.lexer.specs.Flags as flag;
 ghost use Rattle.lexer.specs.Lexer as spec;
+ghost use Rattle.lexer.specs.FlagsOf.{flag_named};
 ghost use Rattle.tokens.specs.CalledBy.{state_of, CalledBy, standing};
 
 use crate::call;
 use crate::call::Lexer;
+use lexer::flags::Flag;
 use lexer::token::Read;
 use scope::scope::{Scope, Slot};
 
 impl Lexer {
-    // The setters set one flag and clear none.
-    // Ruled out, among others, of each of the five: another flag set; the state left as it was.
-    pub fn set_unary_tests_mut(&mut self)
-        ensures { state_of self.new ≡ spec.set flag.UnaryTests (state_of self.old) }
+    // Sets one flag and clears none.
+    // Ruled out, among others: another flag set; the state left as it was.
+    pub fn set_mut(&mut self, flag: Flag)
+        ensures { state_of self.new ≡ spec.set (flag_named flag) (state_of self.old) }
     {
-        *self = self.set_unary_tests();
-    }
-
-    pub fn set_between_mut(&mut self)
-        ensures { state_of self.new ≡ spec.set flag.Between (state_of self.old) }
-    {
-        *self = self.set_between();
-    }
-
-    pub fn set_type_name_mut(&mut self)
-        ensures { state_of self.new ≡ spec.set flag.TypeName (state_of self.old) }
-    {
-        *self = self.set_type_name();
-    }
-
-    pub fn set_till_in_mut(&mut self)
-        ensures { state_of self.new ≡ spec.set flag.TillIn (state_of self.old) }
-    {
-        *self = self.set_till_in();
-    }
-
-    pub fn set_after_dot_mut(&mut self)
-        ensures { state_of self.new ≡ spec.set flag.AfterDot (state_of self.old) }
-    {
-        *self = self.set_after_dot();
+        *self = self.set(flag);
     }
 
     // The next token of a text, as by value; its place is the lexer's position afterwards.
