@@ -22,32 +22,26 @@ use Rattle.runs.specs.Calls.{Room, has_room, made, refused, room_after, run_reco
 use Rattle.repair.specs.Asking.{asked}
 use Rattle.runs.specs.Ran.{answer_of, Ran}
 use Rattle.repair.specs.Repaired.{Repaired}
-use Rattle.runs.specs.declared.call.Made.{Made}
-use Rattle.runs.specs.declared.call.Made.TheVariants as variant
+use Rattle.runs.specs.declared.call.Counts.{Counts}
+use Rattle.runs.proofs.RefusalLaws.{numbered-same}
+use Rattle.runs.proofs.RunCallLaws.{made_of}
+use Rattle.std.specs.Prelude.{Result, Ok}
+use Rattle.text.specs.declared.refusal.Refusal.{Refusal}
 use Rattle.runs.proofs.Demand3.{request_of, demand_3}
 use Rattle.runs.proofs.RecordLaws.{unpacked}
 
 -- A call that made a record was not refused.
-is_made : Made → Bool
-is_made (variant.Record n m) = true
-is_made (variant.Refused n) = false
-
-row_count : Made → ℕ
-row_count (variant.Record n m) = n
-row_count (variant.Refused n) = 0
-
-pub made_by : (lent : Lent) (room : Room) (n : ℕ) (r : Record) {i c : ℕ} → variant.Record i c ≡ answer_of (checked lent room n r) → (n ≤ max_chars) × (checked lent room n r ≡ made r) × (i ≡ length r.rows)
-unfolding is_made row_count
-made_by lent room n r {i} = go (ltb max_chars n) refl (is_broken lent) (has_room n room)
+pub made_by : (lent : Lent) (room : Room) (n : ℕ) (r : Record) {c : Counts} → made_of c ≡ answer_of (checked lent room n r) → (n ≤ max_chars) × (checked lent room n r ≡ made r) × (c.items ≡ length r.rows)
+made_by lent room n r = go (ltb max_chars n) refl (is_broken lent) (has_room n room)
   where
-    go : {i c : ℕ} (x : Bool) → ltb max_chars n ≡ x → (y z : Bool) → variant.Record i c ≡ answer_of (cond x (refused too_long) (cond y (refused broken_scope) (cond z (made r) (refused short_slice))))
-        → (n ≤ max_chars) × (cond x (refused too_long) (cond y (refused broken_scope) (cond z (made r) (refused short_slice))) ≡ made r) × (i ≡ length r.rows)
-    go true e y z p = absurd (false≢true (sym (ap is_made p)))
-    go false e true z p = absurd (false≢true (sym (ap is_made p)))
-    go false e false false p = absurd (false≢true (sym (ap is_made p)))
-    go false e false true p = (ltb-false max_chars n e, refl, ap row_count p)
+    go : {c : Counts} (x : Bool) → ltb max_chars n ≡ x → (y z : Bool) → made_of c ≡ answer_of (cond x (refused too_long) (cond y (refused broken_scope) (cond z (made r) (refused short_slice))))
+        → (n ≤ max_chars) × (cond x (refused too_long) (cond y (refused broken_scope) (cond z (made r) (refused short_slice))) ≡ made r) × (c.items ≡ length r.rows)
+    go true e y z p = cc
+    go false e true z p = cc
+    go false e false false p = cc
+    go {c} false e false true p = let q : c ≡ record { items = length r.rows; cells = length r.store } = cc in (ltb-false max_chars n e, refl, ap (λ x. x.items) q)
 
-module _ (lent : Lent) (k : ℕ) (f : Flags) (old : List ℕ) (first : Room) {left : Room} {n m : ℕ} (ran : Ran lent k f old first (variant.Record n m) left) (a b : ℕ) (put : List ℕ) where
+module _ (lent : Lent) (k : ℕ) (f : Flags) (old : List ℕ) (first : Room) {left : Room} {n m : ℕ} (ran : Ran lent k f old first (Ok (record { items = n; cells = m })) left) (a b : ℕ) (put : List ℕ) where
   abbrev edit : Edit
   edit = record { from = a; to = b; size = length put }
 
@@ -89,7 +83,7 @@ module _ (lent : Lent) (k : ℕ) (f : Flags) (old : List ℕ) (first : Room) {le
       ∙ ap (λ is. asked (length old) record_of.rows (record_of.store ++ behind) a b (length put) (drop (last_kept edit is 0) new)) (unpacked behind (run_items reader k f old))
 
   -- The whole answer and every cell of the three slices.
-  pub calls_agree : a ≤ b → b ≤ length old → (room : Room) {r r' : Made} {after after' : Room} → Repaired lent handed room r after → Ran lent k f new room r' after' → (r ≡ r') × (after ≡ after')
+  pub calls_agree : a ≤ b → b ≤ length old → (room : Room) {r r' : Result Counts Refusal} {after after' : Room} → Repaired lent handed room r after → Ran lent k f new room r' after' → (r ≡ r') × (after ≡ after')
   calls_agree ordered within room p q =
       let e = ap (repair_call lent room) same-request ∙ demand_3 lent room k f old a b put behind ordered within facts.0 in
-      (p.answer ∙ ap answer_of e ∙ sym q.answer, p.left ∙ ap (λ x. room_after x room) e ∙ sym q.left)
+      (numbered-same (p.answer ∙ ap answer_of e ∙ sym q.answer), p.left ∙ ap (λ x. room_after x room) e ∙ sym q.left)

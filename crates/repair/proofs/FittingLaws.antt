@@ -8,9 +8,12 @@ use lib.Dec.{leb, ltb, eqb}
 use lib.ListN.{length, get_or, drop}
 use borrow.Author.Tests.{leb-true, ltb-true, eqb-true}
 use Rattle.reading.proofs.Test.{both}
-use Rattle.runs.specs.Record.{Record, position_at, reach_at, start_at, length_at}
+use Rattle.runs.specs.Record.{Record, refused_at, number_at, position_at, reach_at, start_at, length_at}
 use Rattle.runs.specs.Request.{is_row, row_fits, rows_fit, first_fits, record_fits}
-use Rattle.repair.proofs.RequestCodeLaws.{ends}
+use Rattle.lexer.specs.Read.{is_last}
+
+abbrev ends : List ℕ → Bool
+ends r = is_last (eqb (get_or r refused_at 0) 1) (get_or r number_at 0)
 
 -- What a row that fits is known to be.
 pub record Fitting (n m at p : ℕ) (r : List ℕ) : Type 0 where

@@ -25,18 +25,18 @@ use Rattle.runs.proofs.RanLaws.{items-step}
 use Rattle.repair.proofs.PointerLaws.{passed_none, passed_on, followed-fresh, followed_old}
 use Rattle.runs.proofs.BehindLaws.{store_behind, behind_none, behind-one, behind_more}
 
-module _ {tok : Reader} {part : List ℕ} {at : Progress} {rows : List (List ℕ)} {store : List ℕ} {at' : Progress} {rows' : List (List ℕ)} {store' : List ℕ} (n : Next tok part at rows store at' rows' store') (room : at.items < length rows) where
-  row_written : get_or rows' at.items [] ≡ row_of at.cells n.item
-  row_written = ap (λ rs. get_or rs at.items []) n.written.row ∙ get_or-set_same rows at.items (row_of at.cells n.item) [] room
+module _ {tok : Reader} {part : List ℕ} {at : Progress} {rows : List (List ℕ)} {store : List ℕ} {at' : Progress} {rows' : List (List ℕ)} {store' : List ℕ} (n : Next tok part at rows store at' rows' store') (room : at.counts.items < length rows) where
+  row_written : get_or rows' at.counts.items [] ≡ row_of at.counts.cells n.item
+  row_written = ap (λ rs. get_or rs at.counts.items []) n.written.row ∙ get_or-set_same rows at.counts.items (row_of at.counts.cells n.item) [] room
 
-  pub place_written : get_or (get_or rows' at.items []) position_at 0 ≡ n.item.position
+  pub place_written : get_or (get_or rows' at.counts.items []) position_at 0 ≡ n.item.position
   place_written = ap (λ r. get_or r position_at 0) row_written
 
-  pub reach_written : get_or (get_or rows' at.items []) reach_at 0 ≡ n.item.reach
+  pub reach_written : get_or (get_or rows' at.counts.items []) reach_at 0 ≡ n.item.reach
   reach_written = ap (λ r. get_or r reach_at 0) row_written
 
   pub fresh-is : (base : ℕ) {p q : ℕ} {rows'' : List (List ℕ)} → p ≡ base + n.item.position → q ≡ base + n.item.reach
-      → rows'' ≡ set rows' at.items (moved_row (get_or rows' at.items []) p q at.cells) → Fresh tok part base at rows store at' rows'' store'
+      → rows'' ≡ set rows' at.counts.items (moved_row (get_or rows' at.counts.items []) p q at.counts.cells) → Fresh tok part base at rows store at' rows'' store'
   fresh-is base {p} {q} place far row =
       let i = n.item in
       let a : base + i.position ≡ moved (put_at base) i.position = omega arith in
@@ -65,7 +65,7 @@ pub record Seeking (tok : Reader) (e : Edit) (old : List (List ℕ)) (part : Lis
   pub all : (values : List ℕ)
       → fresh ++ followed e (map (item_of values) old) (cond at.ended [] (fresh_at tok part base (length part + 1 - length fresh) at.position (flags_of at.flags))) (base + at.position) (flags_of at.flags)
       ≡ followed e (map (item_of values) old) (fresh_items tok part base f) base f
-  pub behind : Behind n c rows store fresh at.items at.cells rows' store'
+  pub behind : Behind n c rows store fresh at.counts.items at.counts.cells rows' store'
   pub passed : Passed e old j (base + at.position)
   pub within : at.position ≤ length part
   pub few : at.ended ≡ false → length fresh ≤ at.position
@@ -73,7 +73,7 @@ pub record Seeking (tok : Reader) (e : Edit) (old : List (List ℕ)) (part : Lis
 
 module _ {tok : Reader} {e : Edit} {old : List (List ℕ)} {part : List ℕ} {base : ℕ} {n c : ℕ} {rows : List (List ℕ)} {store : List ℕ} where
   pub seeking_none : {f : Coded} → n ≤ length rows → c ≤ length store
-      → Seeking tok e old part base (flags_of f) n c rows store 0 (record { position = 0; flags = f; items = n; cells = c; ended = false }) rows store
+      → Seeking tok e old part base (flags_of f) n c rows store 0 (record { position = 0; flags = f; counts = record { items = n; cells = c }; ended = false }) rows store
   seeking_none h l =
       let z : base + 0 ≡ base = omega arith in
       let y : length part + 1 - 0 ≡ length part + 1 = omega arith in
@@ -81,14 +81,14 @@ module _ {tok : Reader} {e : Edit} {old : List (List ℕ)} {part : List ℕ} {ba
 
   module _ {f : Flags} {j : ℕ} {at : Progress} {rows' : List (List ℕ)} {store' : List ℕ} (k : Seeking tok e old part base f n c rows store j at rows' store') where
     -- Behind the item that ends the run no old row follows.
-    pub seeking_end : at.ended ≡ true → {m : Matched} → m.items ≡ at.items → m.cells ≡ at.cells → m.old ≡ length old → ToMatch tok e old part base f n c rows store m rows' store'
+    pub seeking_end : at.ended ≡ true → {m : Matched} → m.counts ≡ at.counts → m.old ≡ length old → ToMatch tok e old part base f n c rows store m rows' store'
     unfolding followed
-    seeking_end h a b o = record {
+    seeking_end h a o = record {
       fresh = k.fresh;
       all = λ values. sym (k.all values) ∙ rw (h, o, drop-length);
-      behind = rw (a, b) k.behind;
+      behind = rw a k.behind;
       within = omega (arith, o);
-      short = omega (arith, b, k.behind.cells, k.short, k.within);
+      short = rw a (omega (arith, k.behind.cells, k.short, k.within));
       left = λ l. absurd (omega (arith, o));
     }
 
@@ -102,18 +102,18 @@ module _ {tok : Reader} {e : Edit} {old : List (List ℕ)} {part : List ℕ} {ba
           ≡ followed e (map (item_of values) old) (fresh_items tok part base f) base f
       ahead one values = rw (going, fuel, fresh_step tok part base (length part - length k.fresh) at.position (flags_of at.flags) one) at (k.all values)
 
-      pub seeking_match : {j' : ℕ} → Matching e old j' (base + at.position) (flags_of at.flags) → {m : Matched} → m.items ≡ at.items → m.cells ≡ at.cells → m.old ≡ j' + 1 → ToMatch tok e old part base f n c rows store m rows' store'
-      seeking_match {j'} w a b o = record {
+      pub seeking_match : {j' : ℕ} → Matching e old j' (base + at.position) (flags_of at.flags) → {m : Matched} → m.counts ≡ at.counts → m.old ≡ j' + 1 → ToMatch tok e old part base f n c rows store m rows' store'
+      seeking_match {j'} w a o = record {
         fresh = k.fresh;
         all = λ values. sym (ahead refl values) ∙ rw (o, followed_old e (map (item_of values) old) _ _ (base + at.position) (flags_of at.flags) (w.rest values));
-        behind = rw (a, b) k.behind;
+        behind = rw a k.behind;
         within = omega (arith, o, w.more);
-        short = omega (arith, b, k.behind.cells, k.short, k.within);
-        left = λ _. record { row = j'; next = o; behind = w.behind; few = omega (arith, a, w.place, k.behind.count, k.few going); short = omega (arith, b, w.place, k.behind.cells, k.short) };
+        short = rw a (omega (arith, k.behind.cells, k.short, k.within));
+        left = λ _. record { row = j'; next = o; behind = w.behind; few = rw a (omega (arith, w.place, k.behind.count, k.few going)); short = rw a (omega (arith, w.place, k.behind.cells, k.short)) };
       }
 
       pub seeking_more : {j' : ℕ} → Passed e old j' (base + at.position) → ((values : List ℕ) → old_rest e (map (item_of values) old) (base + at.position) (flags_of at.flags) ≡ None)
-          → {at'' : Progress} {rows'' : List (List ℕ)} {store'' : List ℕ} → Fresh tok part base at rows' store' at'' rows'' store'' → at.items < length rows' → at.cells + (length part - at.position) ≤ length store'
+          → {at'' : Progress} {rows'' : List (List ℕ)} {store'' : List ℕ} → Fresh tok part base at rows' store' at'' rows'' store'' → at.counts.items < length rows' → at.counts.cells + (length part - at.position) ≤ length store'
           → Seeking tok e old part base f n c rows store j' at'' rows'' store''
       seeking_more {j'} s miss {at''} r room space =
           let x = r.next in

@@ -4,10 +4,13 @@ use mathlib.Core.Bool.{Bool, true, false, cond, false≢true}
 use mathlib.Core.List.{List, [], ◌∷◌, ◌++◌}
 use Prim.Native.Nat.{ℕ, zero, suc, ◌+◌, ◌-◌, ◌≤◌, ◌<◌}
 use native.Mathlib.Omega.{arith}
-use native.Mathlib.Numerals.{add-one}
+use native.Mathlib.Numerals.{one-add}
+use lib.Dec.{leb}
 use lib.ListN.{length, get_or, take, drop}
-use borrow.Author.Tests.{le-leb, lt-leb}
-use Rattle.scope.proofs.ListLaws.{map-step, map-end}
+use borrow.Author.Tests.{le-leb}
+use Rattle.std.specs.List.{prefix_len, take_while}
+use Rattle.std.proofs.lemmas.List.Folds.{length-prefix_len}
+use Rattle.std.proofs.lemmas.List.Sums.{prefix_len-le-length}
 use Rattle.runs.specs.Item.{Item}
 use Rattle.runs.specs.Edit.{Edit}
 use Rattle.runs.specs.Repair.{is_kept, last_kept, repaired_from, repair_items}
@@ -21,27 +24,21 @@ use Rattle.repair.proofs.FittingLaws.{first_place, record_first}
 abbrev pub items_of : List (List ℕ) → List ℕ → List Item
 items_of rows store = unpack (record { rows = rows; store = store })
 
--- The first i rows are kept.
-pub record KeptTo (from : ℕ) (rows : List (List ℕ)) (i : ℕ) : Type 0 where
-  pub within : i ≤ length rows
-  pub count : (e : Edit) (store : List ℕ) → e.from ≡ from → kept_count e (items_of rows store) ≡ i + kept_count e (drop i (items_of rows store))
+-- The rows before the first that looked behind `from`, as the code counts them.
+module _ (from : ℕ) where
+  abbrev pub reaches : List ℕ → Bool
+  reaches r = leb (get_or r reach_at 0) from
 
-module _ {from : ℕ} {rows : List (List ℕ)} where
-  pub kept_none : KeptTo from rows 0
-  kept_none = record { within = omega arith; count = λ e store o. omega arith }
-
-  module _ {i : ℕ} (k : KeptTo from rows i) where
-    pub kept_more : i < length rows → get_or (get_or rows i []) reach_at 0 ≤ from → KeptTo from rows (i + 1)
+  module _ (e : Edit) (store : List ℕ) (o : e.from ≡ from) where
+    counted : (rows : List (List ℕ)) → prefix_len reaches rows ≡ kept_count e (items_of rows store)
     unfolding kept_count
-    kept_more h l = record { within = omega arith; count = λ e store o. k.count e store o ∙ rw (map-step (item_of store) [] rows i h, le-leb (get_or (get_or rows i []) reach_at 0) e.from (omega (arith, o)), add-one) (omega arith) }
+    counted [] = refl
+    counted (r ∷ rows) = rw (o, counted rows, one-add)
 
-    pub kept-end : i < length rows → from < get_or (get_or rows i []) reach_at 0 → KeptRows from rows i
-    unfolding kept_count
-    kept-end h l = record { within = omega arith; count = λ e store o. sym (k.count e store o ∙ rw (map-step (item_of store) [] rows i h, lt-leb (get_or (get_or rows i []) reach_at 0) e.from (omega (arith, o))) (omega arith)) }
-
-    pub kept-all : length rows ≤ i → KeptRows from rows i
-    unfolding kept_count
-    kept-all h = record { within = omega arith; count = λ e store o. sym (k.count e store o ∙ rw (map-end (item_of store) rows i h) (omega arith)) }
+  pub kept_rows : (rows : List (List ℕ)) {k : ℕ} → k ≡ length (take_while reaches rows) → KeptRows from rows k
+  kept_rows rows {k} h =
+      let z : length (take_while reaches rows) ≡ prefix_len reaches rows = length-prefix_len reaches rows in
+      record { within = omega (arith, h, z, prefix_len-le-length reaches rows); count = λ e store o. h ∙ z ∙ counted e store o rows }
 
 module _ (e : Edit) (store : List ℕ) where
   last_none : (rows : List (List ℕ)) (p : ℕ) → 0 ≡ kept_count e (items_of rows store) → last_kept e (items_of rows store) p ≡ p

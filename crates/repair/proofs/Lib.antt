@@ -1,5 +1,4 @@
 pub mod KeptLaws
-pub mod RequestCodeLaws
 pub mod FittingLaws
 pub mod PointerLaws
 pub mod MatchLaws

@@ -2,12 +2,12 @@
 use mathlib.Core.Path.{◌≡◌, refl, sym, ap, ◌∙◌, subst}
 use mathlib.Core.Bool.{Bool, true, false, ◌&&◌, beq, false≢true}
 use mathlib.Core.List.{List, []}
-use Prim.Native.Nat.{ℕ, ◌+◌, ◌≤◌, ◌<◌}
+use Prim.Native.Nat.{ℕ, ◌+◌, ◌-◌, ◌≤◌, ◌<◌, max}
 use native.Mathlib.Omega.{arith}
 use lib.Dec.{leb, ltb, eqb}
 use lib.ListN.{length, get_or}
 use borrow.Author.Tests.{leb-true, ltb-true, ltb-false, eqb-true, eq-eqb}
-use Rattle.reading.proofs.Test.{both}
+use Rattle.reading.proofs.Test.{both, by_order}
 use Rattle.text.specs.Limits.{max_chars}
 use Rattle.lexer.specs.Flags.{Flags}
 use Rattle.runs.specs.Edit.{Edit, moved}
@@ -19,19 +19,15 @@ use Rattle.runs.proofs.RecordLaws.{bits_back, bits_again}
 use Rattle.repair.proofs.FittingLaws.{record_row}
 use Rattle.repair.proofs.PointerLaws.{record_rising, passed-row, match_end, match_none, match_here}
 
-module _ {e : Edit} {q p : ℕ} where
-  pub before-left : q < e.to → Before e q p true
-  before-left h = record { yes = λ _ l. absurd (omega arith); no = λ b. absurd (false≢true (sym b)) }
-
-  pub before_test : e.to ≤ q → {m : ℕ} → m ≡ moved e q → Before e q p (ltb m p)
-  before_test h {m} o = record {
-    yes = λ b _. let z : m < p = ltb-true m p b in omega (arith, o);
-    no = λ b. let z : p ≤ m = ltb-false m p b in (h, omega (arith, o));
-  }
-
 module _ {e : Edit} {rows : List (List ℕ)} {j p : ℕ} where
   pub ahead_last : length rows ≤ j + 1 → Ahead e rows j p
   ahead_last h = record { so = λ l. absurd (omega arith) }
+
+  -- A loop from `first` ends at the last row, or does not begin where that lies before.
+  pub passed_all : {first last m : ℕ} → last ≡ length rows - 1 → Passed e rows first p → Passed e rows j p → last ≤ j → (first ≤ last → j ≤ last) → m ≡ max first last → Passed e rows m p × Ahead e rows m p
+  passed_all {first} {last} {m} l a b h k o = by_order first last
+      (λ g. let z : m ≡ j = omega (arith, k (omega arith)) in rw z (b, ahead_last (omega arith)))
+      (λ g. let z : m ≡ first = omega arith in rw z (a, record { so = λ n. absurd (omega arith) }))
 
   -- By the test of the row's place.
   module _ {q : ℕ} (place : q ≡ place_at rows j) {b : Bool} (o : Before e q p b) where
@@ -81,7 +77,3 @@ module _ {e : Edit} {rows : List (List ℕ)} {j p : ℕ} (s : Passed e rows j p)
           found = λ b. record { more = h; behind = (o.so h).0; place = q; rest = λ store. match_here s (record_rising a.size (record { rows = rows; store = a.store }) a.fits) h (o.so h).0 store f q (numbers_same n f (rw z at b)) };
           missed = λ b store. match_none s (record_rising a.size (record { rows = rows; store = a.store }) a.fits) h (o.so h).0 store f (o.so h).1 (λ _. numbers_differ n f small (rw z at b));
         }
-
--- An accepted record is short.
-pub accepted_few : {rows : List (List ℕ)} → Accepted rows → length rows ≤ max_chars + 2
-accepted_few {rows} a = omega (arith, leb-true (length rows) (a.size + 2) (both (leb (length rows) (a.size + 2)) _ a.fits).0, a.limit)

@@ -7,7 +7,7 @@ use native.Mathlib.Omega.{arith}
 use native.Mathlib.Numerals.{add-one}
 use lib.Dec.{ltb, eqb}
 use lib.ListN.{length, get_or, take, drop, length-append, length-take, length-drop, length-map}
-use lib.Seq.{slice, length-take-le, take-length, get_or-drop, drop-length}
+use lib.Seq.{length-take-le, take_all, take-length, get_or-take, get_or-drop, drop-length}
 use borrow.Author.Tests.{ltb-false, eqb-true, not-false}
 use Rattle.reading.proofs.Test.{by_test, by_order}
 use Rattle.text.specs.Limits.{max_chars}
@@ -138,9 +138,6 @@ module _ {rows : List (List ℕ)} {store : List ℕ} {e : Edit} {part : List ℕ
   pub askable_accepted : Accepted rows
   askable_accepted = record { size = a.size; store = store; fits = known.fits; limit = known.limit }
 
-  pub edit_small : e.from + e.size ≤ max_chars
-  edit_small = omega (arith, a.limit)
-
   -- A row can be moved by an edit that ends at its place or before it.
   movable : (g : Edit) (i : ℕ) → i < length rows → g.to ≤ place_at rows i → Movable g (length store) (get_or rows i [])
   movable g i l h =
@@ -161,8 +158,12 @@ module _ {rows : List (List ℕ)} {store : List ℕ} {e : Edit} {part : List ℕ
         let p = part-at-row kept kept-one {p = place_at rows (c - 1)} refl (omega (arith, f.in_text, known.limit)) in
         omega (arith, p.last e store refl, known.ends)
 
-    pub kept_copyable : Copyable (put_at 0) rows store 0 c
-    kept_copyable = record { ordered = omega arith; within = kept.within; each = λ i _ l. movable (put_at 0) i (omega (arith, kept.within)) (omega arith) }
+    pub kept_copyable : Copyable (put_at 0) (take c rows) store
+    kept_copyable = record {
+      each = λ i l.
+          let h : i < c = omega (arith, length-take-le c rows kept.within) in
+          rw (get_or-take c rows i [] h) (movable (put_at 0) i (omega (arith, kept.within)) (omega arith));
+    }
 
     pub kept-rows : c ≤ n
     kept-rows = omega (arith, kept-one, kept-placed.few, kept_place, a.rows_long)
@@ -189,14 +190,14 @@ module _ {rows : List (List ℕ)} {store : List ℕ} {e : Edit} {part : List ℕ
   -- Behind the fresh items: the old rest has its place, and there is room for it.
   module _ {tok : Reader} {base : ℕ} {f : Flags} {n₁ c₁ : ℕ} {rows₁ : List (List ℕ)} {store₁ : List ℕ} {o : Matched} {rows₂ : List (List ℕ)} {store₂ : List ℕ}
       (t : ToMatch tok e rows part base f n₁ c₁ rows₁ store₁ o rows₂ store₂) (ends : base + length part ≡ moved e a.size) (few : n₁ ≤ base + 1) (short : c₁ ≤ base) where
-    rest-is : slice o.old (length rows) rows ≡ drop o.old rows
-    rest-is = ap (drop o.old) (take-length rows)
+    pub rest-is : take (length rows - o.old) (drop o.old rows) ≡ drop o.old rows
+    rest-is = take_all (length rows - o.old) (drop o.old rows) (omega (arith, length-drop o.old rows))
 
-    pub rest_copyable : Copyable e rows store o.old (length rows)
+    pub rest_copyable : Copyable e (drop o.old rows) store
     rest_copyable = record {
-      ordered = t.within;
-      within = omega arith;
-      each = λ i h l.
+      each = λ n h.
+          let i = o.old + n in
+          let l : i < length rows = omega (arith, length-drop o.old rows, t.within) in
           let u = t.left (omega arith) in
           let j = u.row in
           let r = get_or rows j [] in
@@ -204,13 +205,13 @@ module _ {rows : List (List ℕ)} {store : List ℕ} {e : Edit} {part : List ℕ
           let w = reached a.size (length store) (get_or r start_at 0 + get_or r length_at 0) (place_at rows j) (drop (suc j) rows) fits (i - suc j) (omega (arith, u.next, length-drop (suc j) rows)) in
           let z : suc j + (i - suc j) ≡ i = omega (arith, u.next) in
           let y : place_at (drop (suc j) rows) (i - suc j) ≡ place_at rows i = ap (λ s. get_or s position_at 0) (get_or-drop (suc j) rows (i - suc j) [] ∙ ap (λ x. get_or rows x []) z) in
-          movable e i l (omega (arith, u.behind, w.few, y));
+          rw (get_or-drop o.old rows n []) (movable e i l (omega (arith, u.behind, w.few, y)));
     }
 
-    pub rest-rows : n ≡ length rows₁ → o.items + (length rows - o.old) ≤ length rows₁
-    rest-rows same = by_order o.old (length rows) some (λ h. omega (arith, t.behind.room))
+    pub rest-rows : n ≡ length rows₁ → o.counts.items + length (drop o.old rows) ≤ length rows₁
+    rest-rows same = rw length-drop (by_order o.old (length rows) some (λ h. omega (arith, t.behind.room)))
       where
-        some : o.old < length rows → o.items + (length rows - o.old) ≤ length rows₁
+        some : o.old < length rows → o.counts.items + (length rows - o.old) ≤ length rows₁
         some l =
             let u = t.left l in
             let j = u.row in
@@ -218,10 +219,10 @@ module _ {rows : List (List ℕ)} {store : List ℕ} {e : Edit} {part : List ℕ
             let b = bounded a.size (length store) (get_or r start_at 0 + get_or r length_at 0) (place_at rows j) (drop (suc j) rows) (record_from a.size ask.old known.fits j (omega (arith, u.next))) in
             omega (arith, u.next, u.behind, u.few, b.count, length-drop (suc j) rows, a.rows_long, known.in_text)
 
-    pub rest-cells : o.cells + length (store_of (moved_items e (slice o.old (length rows) rows) store)) ≤ moved e a.size
-    rest-cells = rw rest-is (by_order o.old (length rows) some none)
+    pub rest-cells : o.counts.cells + length (store_of (moved_items e (drop o.old rows) store)) ≤ moved e a.size
+    rest-cells = by_order o.old (length rows) some none
       where
-        some : o.old < length rows → o.cells + length (store_of (moved_items e (drop o.old rows) store)) ≤ moved e a.size
+        some : o.old < length rows → o.counts.cells + length (store_of (moved_items e (drop o.old rows) store)) ≤ moved e a.size
         some l =
             let u = t.left l in
             let j = u.row in
@@ -229,16 +230,16 @@ module _ {rows : List (List ℕ)} {store : List ℕ} {e : Edit} {part : List ℕ
             let b = bounded a.size (length store) (get_or r start_at 0 + get_or r length_at 0) (place_at rows j) (drop (suc j) rows) (record_from a.size ask.old known.fits j (omega (arith, u.next))) in
             rw (u.next, add-one) (omega (arith, u.behind, u.short, b.cells, moved-cells e (drop (suc j) rows) store, known.in_text))
 
-        none : length rows ≤ o.old → o.cells + length (store_of (moved_items e (drop o.old rows) store)) ≤ moved e a.size
+        none : length rows ≤ o.old → o.counts.cells + length (store_of (moved_items e (drop o.old rows) store)) ≤ moved e a.size
         none h =
             let z : o.old ≡ length rows = omega (arith, t.within) in
             rw (z, drop-length) (omega (arith, t.short, ends))
 
     pub rest_all : (last : ℕ) → base ≡ place_at rows last → f ≡ bit_flags (get_or (get_or rows last []) flags_at 0) → {n₃ c₃ : ℕ} {rows₃ : List (List ℕ)} {store₃ : List ℕ}
-        → Behind o.items o.cells rows₂ store₂ (moved_items e (slice o.old (length rows) rows) store) n₃ c₃ rows₃ store₃
+        → Behind o.counts.items o.counts.cells rows₂ store₂ (moved_items e (drop o.old rows) store) n₃ c₃ rows₃ store₃
         → Behind n₁ c₁ rows₁ store₁ (fresh_behind tok e store part (items_of rows store) (get_or rows last [])) n₃ c₃ rows₃ store₃
     rest_all last p g b =
-        let z : t.fresh ++ moved_items e (slice o.old (length rows) rows) store ≡ fresh_behind tok e store part (items_of rows store) (get_or rows last []) = rw (rest-is, ← p, ← g) (sym (t.all store)) in
+        let z : t.fresh ++ moved_items e (drop o.old rows) store ≡ fresh_behind tok e store part (items_of rows store) (get_or rows last []) = rw (← p, ← g) (sym (t.all store)) in
         rw z at (behind_more t.behind b)
 
 pub askable_same : {rows : List (List ℕ)} {store : List ℕ} {e : Edit} {part : List ℕ} {n m k n' m' k' : ℕ} → Askable rows store e part n m k → n' ≡ n → m' ≡ m → k' ≡ k → Askable rows store e part n' m' k'

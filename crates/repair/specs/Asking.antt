@@ -7,6 +7,7 @@ use Rattle.runs.specs.Edit.{Edit, moved}
 use Rattle.runs.specs.Repair.{is_kept, last_kept, followed, fresh_items}
 use Rattle.runs.specs.Record.{item_of, unpack}
 use Rattle.runs.specs.Request.{Request, is_broken_request}
+use Rattle.repair.specs.declared.request.Request.{Request as Coded}
 
 -- The request of an old length, rows and store, an edit and a text part.
 abbrev pub asked : ℕ → List (List ℕ) → List ℕ → ℕ → ℕ → ℕ → List ℕ → Request
@@ -16,6 +17,9 @@ asked n rows store from to size part = record {
   edit = record { from = from; to = to; size = size };
   part = part;
 }
+
+abbrev pub request_of : Coded → Request
+request_of q = asked q.old_length q.old.rows.now q.old.store.now q.from q.to q.size q.part.now
 
 -- The number of items before the first that is not kept.
 unfoldable pub kept_count : Edit → List Item → ℕ

@@ -4,8 +4,10 @@ use mathlib.Core.List.{List, [], ◌∷◌, ◌++◌, map, append-nil, append_as
 use Prim.Native.Nat.{ℕ, suc, ◌+◌, ◌-◌, ◌≤◌, ◌<◌}
 use native.Mathlib.Omega.{arith}
 use native.Mathlib.Numerals.{add-one}
-use lib.ListN.{length, get_or, take, drop, set, length-append, length-take, length-drop, length-set, length-map, take-append-drop}
-use lib.Seq.{slice, slice_empty, slice-cons, length-slice, paste, length-take-le, take_at, drop_at, drop-drop, set_split}
+use lib.ListN.{length, get_or, take, drop, set, length-append, length-drop, length-set, length-map, take-append-drop}
+use borrow.Rule.Slice.PartMut.{put_mid}
+use lib.Seq.{length-take-le, take-suc, take_all, drop-cons, take_at, drop_at, drop-drop, set_split}
+use Rattle.std.proofs.lemmas.List.{map-append}
 use Rattle.runs.specs.Item.{Item}
 use Rattle.runs.specs.Edit.{Edit, moved, moved_item}
 use Rattle.runs.specs.Record.{position_at, reach_at, start_at, length_at, row_of, rows_from, store_of, item_of}
@@ -82,69 +84,52 @@ behind-same {n} {c} {rows} {store} e {n'} {c'} {rows'} {store'} b = subst (λ is
 
 -- An old item, moved: its row differs in three places, and its value is copied as it is.
 module _ (e : Edit) (old r : List ℕ) (fits : Movable e (length old) r) (eleven : length r ≡ 11) where
-  pub value_long : length (item_of old r).value ≡ get_or r length_at 0
-  value_long = simp (length-take, length-drop) (omega (arith, fits.in_store))
-
-  pub copied_is : {n c : ℕ} {rows : List (List ℕ)} {store : List ℕ} {n' c' x y p q s z : ℕ} {rows' : List (List ℕ)} {store' : List ℕ}
-      → n' ≡ n + 1 → x ≡ get_or r position_at 0 → p ≡ moved e x → y ≡ get_or r reach_at 0 → q ≡ moved e y → s ≡ get_or r start_at 0 → z ≡ s + get_or r length_at 0
-      → rows' ≡ set rows n (moved_row r p q c) → c' ≡ c + (z - s) → store' ≡ paste store c (drop s old) (z - s) → Copied (moved_item e (item_of old r)) n c rows store n' c' rows' store'
-  copied_is {n} {c} {rows} {store} {s = s} {z = z} one at place off far from to row cells value =
-      let size : z - s ≡ get_or r length_at 0 = omega (arith, to) in
-      let v = (item_of old r).value in
+  pub copied_is : {n c k : ℕ} {rows : List (List ℕ)} {store : List ℕ} {p q : ℕ} {v w : List ℕ} {rows' : List (List ℕ)} → p ≡ moved e (get_or r position_at 0) → q ≡ moved e (get_or r reach_at 0)
+      → rows' ≡ set rows n (moved_row r p q c) → v ≡ take (get_or r start_at 0 + get_or r length_at 0 - get_or r start_at 0) (drop (get_or r start_at 0) old) → w ≡ v → k ≡ length v
+      → Copied (moved_item e (item_of old r)) n c rows store (n + 1) (c + length v) rows' (put_mid c k store w)
+  copied_is {n} {c} {k} {rows} {store} {v = v} place far row from same size =
+      let z : get_or r start_at 0 + get_or r length_at 0 - get_or r start_at 0 ≡ get_or r length_at 0 = omega arith in
+      let y : v ≡ (item_of old r).value = rw z at from in
       record {
-        count = one;
-        cells = omega (arith, cells, size, value_long);
-        row = row ∙ rw (place, far, at, off) (ap (λ x. set rows n (moved_row x (moved e (get_or r position_at 0)) (moved e (get_or r reach_at 0)) c)) (sym (row_again r eleven old fits.row fits.in_store)));
-        value = value ∙ rw (size, from) (rw (lay_parts c v store, value_long));
+        count = refl;
+        cells = ap (λ x. c + length x) y;
+        row = row ∙ rw (place, far) (ap (λ x. set rows n (moved_row x (moved e (get_or r position_at 0)) (moved e (get_or r reach_at 0)) c)) (sym (row_again r eleven old fits.row fits.in_store)));
+        value = rw (same, size, y) refl;
       }
-
--- A loop that copies the rows from `first` up to `end` stands at the row i.
-pub record Copying (e : Edit) (old : List (List ℕ)) (values : List ℕ) (first end : ℕ) (n₀ c₀ : ℕ) (rows₀ : List (List ℕ)) (store₀ : List ℕ) (i n c : ℕ) (rows : List (List ℕ)) (store : List ℕ) : Type 0 where
-  pub sofar : List Item
-  pub all : sofar ++ moved_items e (slice i end old) values ≡ moved_items e (slice first end old) values
-  pub behind : Behind n₀ c₀ rows₀ store₀ sofar n c rows store
-  pub begun : first ≤ i
-  pub within : i ≤ end
 
 moved-count : (e : Edit) (rs : List (List ℕ)) (values : List ℕ) → length (moved_items e rs values) ≡ length rs
 moved-count e rs values = length-map (map (item_of values) rs) (moved_item e) ∙ length-map rs (item_of values)
 
-module _ {e : Edit} {old : List (List ℕ)} {values : List ℕ} {first end : ℕ} {n₀ c₀ : ℕ} {rows₀ : List (List ℕ)} {store₀ : List ℕ} where
-  pub copying_none : first ≤ end → n₀ ≤ length rows₀ → c₀ ≤ length store₀ → Copying e old values first end n₀ c₀ rows₀ store₀ first n₀ c₀ rows₀ store₀
-  copying_none o h l = record { sofar = []; all = refl; behind = behind_none h l; begun = omega arith; within = o }
+-- A loop that copies old rows has written the first i of them.
+module _ (e : Edit) (old : List (List ℕ)) (values : List ℕ) (i : ℕ) where
+  abbrev this : Item
+  this = moved_item e (item_of values (get_or old i []))
 
-  module _ {i n c : ℕ} {rows : List (List ℕ)} {store : List ℕ} (k : Copying e old values first end n₀ c₀ rows₀ store₀ i n c rows store) where
-    pub copying_all : end ≤ i → Behind n₀ c₀ rows₀ store₀ (moved_items e (slice first end old) values) n c rows store
-    copying_all h =
-        let z : i ≡ end = omega (arith, k.within) in
-        let y : k.sofar ≡ moved_items e (slice first end old) values = rw (z, slice_empty end old, append-nil) at k.all in
-        rw y at k.behind
+  abbrev moved_of : List (List ℕ) → List Item
+  moved_of rs = moved_items e rs values
 
-    module _ (h : i < end) (l : end ≤ length old) where
-      next : moved_items e (slice i end old) values ≡ moved_item e (item_of values (get_or old i [])) ∷ moved_items e (slice (suc i) end old) values
-      next = ap (λ rs. moved_items e rs values) (slice-cons i end old [] h l)
+  moved-append : (rs ss : List (List ℕ)) → moved_of (rs ++ ss) ≡ moved_of rs ++ moved_of ss
+  moved-append rs ss = ap (map (moved_item e)) (map-append (item_of values) rs ss) ∙ map-append (moved_item e) (map (item_of values) rs) (map (item_of values) ss)
 
-      all_next : k.sofar ++ (moved_item e (item_of values (get_or old i [])) ∷ moved_items e (slice (suc i) end old) values) ≡ moved_items e (slice first end old) values
-      all_next = rw next at k.all
+  module _ {n₀ c₀ : ℕ} {rows₀ : List (List ℕ)} {store₀ : List ℕ} {n c : ℕ} {rows : List (List ℕ)} {store : List ℕ} (b : Behind n₀ c₀ rows₀ store₀ (moved_of (take i old)) n c rows store) where
+    pub copying_all : length old ≤ i → Behind n₀ c₀ rows₀ store₀ (moved_of old) n c rows store
+    copying_all h = behind-same (ap moved_of (take_all i old h)) b
 
-      -- There is room for it, as there is for all.
-      pub copying_room : n₀ + (end - first) ≤ length rows₀ → n < length rows
-      copying_room r =
-          omega (arith, k.behind.count, k.behind.as_many, ap length all_next, length-append k.sofar (moved_item e (item_of values (get_or old i [])) ∷ moved_items e (slice (suc i) end old) values), moved-count e (slice first end old) values, length-slice first end old l)
+    module _ (h : i < length old) where
+      all_are : moved_of old ≡ moved_of (take i old) ++ (this ∷ moved_of (drop (suc i) old))
+      all_are = ap moved_of (sym (take-append-drop i old)) ∙ rw (drop-cons old i [] h) (moved-append (take i old) (get_or old i [] ∷ drop (suc i) old))
 
-      pub copying_space : {m : ℕ} → c₀ + length (store_of (moved_items e (slice first end old) values)) ≤ m → c + length (item_of values (get_or old i [])).value ≤ m
+      pub copying_room : n₀ + length old ≤ length rows₀ → n < length rows
+      copying_room r = omega (arith, b.count, b.as_many, moved-count e (take i old) values, length-take-le i old (omega arith))
+
+      pub copying_space : {m : ℕ} → c₀ + length (store_of (moved_of old)) ≤ m → c + length (item_of values (get_or old i [])).value ≤ m
       copying_space s =
           let v = (item_of values (get_or old i [])).value in
-          let rest = moved_items e (slice (suc i) end old) values in
-          let z : length (store_of (moved_items e (slice first end old) values)) ≡ length (store_of k.sofar) + (length v + length (store_of rest)) = ap (λ is. length (store_of is)) (sym all_next) ∙ rw (store_behind, length-append, length-append) in
-          omega (arith, k.behind.cells, z)
+          let z : length (store_of (moved_of old)) ≡ length (store_of (moved_of (take i old))) + (length v + length (store_of (moved_of (drop (suc i) old)))) = ap (λ is. length (store_of is)) all_are ∙ rw (store_behind, length-append, length-append) in
+          omega (arith, b.cells, z)
 
-      pub copying_more : {n' c' : ℕ} {rows' : List (List ℕ)} {store' : List ℕ} → Copied (moved_item e (item_of values (get_or old i []))) n c rows store n' c' rows' store' → n₀ + (end - first) ≤ length rows₀
-          → c₀ + length (store_of (moved_items e (slice first end old) values)) ≤ length store₀ → Copying e old values first end n₀ c₀ rows₀ store₀ (i + 1) n' c' rows' store'
-      copying_more o r s = record {
-        sofar = k.sofar ++ moved_item e (item_of values (get_or old i [])) ∷ [];
-        all = rw (append_assoc, add-one) all_next;
-        behind = behind_more k.behind (behind-one o (copying_room r) (omega (arith, copying_space s, k.behind.as_long)));
-        begun = omega (arith, k.begun);
-        within = omega arith;
-      }
+      pub copying_more : {n' c' : ℕ} {rows' : List (List ℕ)} {store' : List ℕ} → Copied this n c rows store n' c' rows' store' → n₀ + length old ≤ length rows₀ → c₀ + length (store_of (moved_of old)) ≤ length store₀
+          → Behind n₀ c₀ rows₀ store₀ (moved_of (take (i + 1) old)) n' c' rows' store'
+      copying_more o r s =
+          let one_more : moved_of (take (i + 1) old) ≡ moved_of (take i old) ++ (this ∷ []) = rw (add-one, take-suc old i [] h) (moved-append (take i old) (get_or old i [] ∷ [])) in
+          behind-same (sym one_more) (behind_more b (behind-one o (copying_room r) (omega (arith, copying_space s, b.as_long))))

@@ -4,7 +4,7 @@ use mathlib.Core.Bool.{Bool, true, false, cond, ◌&&◌}
 use Prim.Native.Nat.{ℕ, ◌+◌, ◌*◌, ◌≤◌, ◌<◌}
 use native.Mathlib.Omega.{arith}
 use lib.Dec.{leb, ltb}
-use borrow.Author.Tests.{lt-ltb, le-ltb, ltb-false, le-leb, lt-leb, leb-true}
+use borrow.Author.Tests.{le-ltb, ltb-false, le-leb, leb-true}
 use lib.ListN.{length}
 use Rattle.reading.proofs.Test.{both}
 use Rattle.text.specs.Limits.{max_chars}
@@ -13,29 +13,6 @@ use Rattle.scope.specs.Lent.{Lent, is_broken}
 use Rattle.runs.specs.Record.{Record}
 use Rattle.runs.specs.Calls.{Room, Answer, made, refused, has_room, checked}
 use Rattle.runs.specs.Ran.{refusal}
-
-module _ (l : Lent) (n rows store scratch : ℕ) where
-  pub too_long_lem : max_chars < n → too_long ≡ refusal l n rows store scratch
-  too_long_lem h = rw (lt-ltb max_chars n h)
-
-  module _ (h : n ≤ max_chars) where
-    pub broken : is_broken l ≡ true → broken_scope ≡ refusal l n rows store scratch
-    broken s = rw (le-ltb max_chars n h, s)
-
-    module _ (s : is_broken l ≡ false) where
-      pub few_rows : rows < n + 2 → short_slice ≡ refusal l n rows store scratch
-      few_rows a = rw (le-ltb max_chars n h, s, lt-leb (n + 2) rows a)
-
-      module _ (a : n + 2 ≤ rows) where
-        pub short_store : store < n → short_slice ≡ refusal l n rows store scratch
-        short_store b = rw (le-ltb max_chars n h, s, le-leb (n + 2) rows a, lt-leb n store b)
-
-        module _ (b : n ≤ store) where
-          pub short_scratch : scratch < 2 * n → short_slice ≡ refusal l n rows store scratch
-          short_scratch d = rw (le-ltb max_chars n h, s, le-leb (n + 2) rows a, le-leb n store b, lt-leb (2 * n) scratch d)
-
-          pub no_refusal : 2 * n ≤ scratch → 0 ≡ refusal l n rows store scratch
-          no_refusal d = rw (le-ltb max_chars n h, s, le-leb (n + 2) rows a, le-leb n store b, le-leb (2 * n) scratch d)
 
 -- The three tests in their order.
 abbrev numbered : Bool → Bool → Bool → ℕ
@@ -50,11 +27,11 @@ refuses_by r false true c m e h = ap refused (sym e)
 refuses_by r false false true m e h = absurd (omega arith)
 refuses_by r false false false m e h = ap refused (sym e)
 
-passes_by : (a b c : Bool) (m : ℕ) → m ≡ numbered a b c → m ≤ 0 → (a ≡ false) × (b ≡ false) × (c ≡ true)
-passes_by true b c m e h = absurd (omega arith)
-passes_by false true c m e h = absurd (omega arith)
-passes_by false false true m e h = (refl, refl, refl)
-passes_by false false false m e h = absurd (omega arith)
+passes_by : (a b c : Bool) → 0 ≡ numbered a b c → (a ≡ false) × (b ≡ false) × (c ≡ true)
+passes_by true b c e = absurd (omega arith)
+passes_by false true c e = absurd (omega arith)
+passes_by false false true e = (refl, refl, refl)
+passes_by false false false e = absurd (omega arith)
 
 -- Nothing is refused: the text is within the limit, the scope is whole, and there is room.
 pub record Passes (l : Lent) (n rows store scratch : ℕ) : Type 0 where
@@ -64,10 +41,10 @@ pub record Passes (l : Lent) (n rows store scratch : ℕ) : Type 0 where
   pub store_long : n ≤ store
   pub scratch_long : 2 * n ≤ scratch
 
-module _ (l : Lent) (n rows store scratch m : ℕ) (e : m ≡ refusal l n rows store scratch) where
-  pub passes : m ≤ 0 → Passes l n rows store scratch
-  passes h =
-      let t = passes_by (ltb max_chars n) (is_broken l) (leb (n + 2) rows && leb n store && leb (2 * n) scratch) m e h in
+module _ (l : Lent) (n rows store scratch : ℕ) (e : 0 ≡ refusal l n rows store scratch) where
+  pub passes : Passes l n rows store scratch
+  passes =
+      let t = passes_by (ltb max_chars n) (is_broken l) (leb (n + 2) rows && leb n store && leb (2 * n) scratch) e in
       let u = both (leb (n + 2) rows && leb n store) (leb (2 * n) scratch) t.2 in
       let v = both (leb (n + 2) rows) (leb n store) u.0 in
       record { within = ltb-false max_chars n t.0; whole = t.1; rows_long = leb-true (n + 2) rows v.0; store_long = leb-true n store v.1; scratch_long = leb-true (2 * n) scratch u.1 }

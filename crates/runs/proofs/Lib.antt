@@ -8,6 +8,7 @@ pub mod Edits
 pub mod RunCases
 pub mod AnswerCases
 pub mod CodedLaws
+pub mod RefusalLaws
 pub mod CallLaws
 pub mod RanLaws
 pub mod RunCallLaws

@@ -1,12 +1,13 @@
 -- A run in code: the start item, one more item, and the whole record behind the last.
 use mathlib.Core.Path.{◌≡◌, refl, sym, ap, ◌∙◌, subst}
-use mathlib.Core.Bool.{Bool, true, false, cond}
+use mathlib.Core.Bool.{Bool, false, cond}
 use mathlib.Core.List.{List, [], ◌∷◌, ◌++◌, append-nil, append_assoc}
 use Prim.Native.Nat.{ℕ, suc, ◌+◌, ◌-◌, ◌≤◌, ◌<◌}
 use native.Mathlib.Nat.{le_refl}
 use native.Mathlib.Omega.{arith}
 use borrow.Rule.Slice.PartMut.{put_mid}
-use lib.ListN.{length, take, drop, set, length-drop, drop_of_length-le}
+use lib.Dec.{eqb}
+use lib.ListN.{length, get_or, take, drop, set, length-drop, drop_of_length-le}
 use lib.Seq.{take_all}
 use Rattle.reading.specs.Look.{run}
 use Rattle.reading.specs.Goes.{got}
@@ -26,24 +27,23 @@ use Rattle.lexer.specs.declared.flags.Flags.{Flags}
 use Rattle.lexer.specs.declared.token.Read.TheVariants.{Plain}
 use Rattle.lexer.specs.declared.token.Outcome.{Outcome}
 use Rattle.lexer.proofs.TokenFacts.{Sound, sound}
-use Rattle.runs.specs.declared.item.Item.{Item as Coded}
 use Rattle.runs.specs.declared.run.Progress.{Progress}
 use Rattle.runs.specs.Item.{Item, item, ends_run}
 use Rattle.runs.specs.Run.{Reader, placed, item_at, items, start_item, run_items}
-use Rattle.runs.specs.Coded.{item_from, Small, row_from}
+use Rattle.runs.specs.Record.{refused_at, number_at}
 use Rattle.runs.specs.Ran.{Next, Stands}
-use Rattle.runs.proofs.CodedLaws.{row_is, ends_is, size_of, small_of}
-use Rattle.runs.proofs.BehindLaws.{lay_long, behind-one, behind_more}
+use Rattle.runs.proofs.CodedLaws.{row_with, row_is, ends_is}
+use Rattle.runs.proofs.BehindLaws.{behind-one, behind_more}
 
-module _ {k n : ℕ} {f : Flags} {c : Coded} {rows rows' : List (List ℕ)} {ended : Bool} (is_start : n ≡ cond (is_one_of start_types k) k TokenType.YyError) (is_item : c ≡ item_from (Plain n) 0 f 0) where
-  pub stands_start : 0 < length rows → rows' ≡ set rows 0 (row_from 0 c) → ended ≡ is_last c.is_refusal c.number → (tok : Reader) (t store : List ℕ)
-      → Stands tok k (flags_of f) t rows store (record { position = 0; flags = f; items = 1; cells = 0; ended = ended }) rows' store
-  stands_start room r e tok t store =
+module _ {k n : ℕ} {f : Flags} {r : List ℕ} {rows rows' : List (List ℕ)} {ended : Bool} (is_start : n ≡ cond (is_one_of start_types k) k TokenType.YyError) (is_row : r ≡ row_with 0 f 0 0 (Plain n)) where
+  pub stands_start : 0 < length rows → rows' ≡ set rows 0 r → ended ≡ is_last (eqb (get_or r refused_at 0) 1) (get_or r number_at 0) → (tok : Reader) (t store : List ℕ)
+      → Stands tok k (flags_of f) t rows store (record { position = 0; flags = f; counts = record { items = 1; cells = 0 }; ended = ended }) rows' store
+  stands_start room w e tok t store =
       let z : length t + 2 - 1 ≡ length t + 1 = omega arith in
       record {
         sofar = start_item k (flags_of f) ∷ [];
-        all = rw (e, is_item, is_start, z);
-        behind = behind-one {i = start_item k (flags_of f)} (record { count = refl; cells = refl; row = rw (r, is_item, is_start); value = refl }) room (omega arith);
+        all = rw (e, is_row, is_start, z);
+        behind = behind-one {i = start_item k (flags_of f)} (record { count = refl; cells = refl; row = rw (w, is_row, is_start); value = refl }) room (omega arith);
         within = omega arith;
         short = omega arith;
         few = λ _. omega arith;
@@ -73,9 +73,6 @@ module _ (is_name : List ℕ → Bool) (t : List ℕ) (p : ℕ) (f : spec.Flags)
       let e : cell_count r.read ≡ length (cells_of w.read) = ap cell_count w.shown ∙ cell-count w.read in
       record { used = omega (arith, s.in_text); far = omega (arith, s.near); cells = omega (arith, s.short) }
 
-  pub found_small : {c : Coded} → c ≡ item_from r.read (p + r.used) r.flags (p + r.reach) → Small c
-  found_small e = let g = found in small_of (p + r.used) r.flags (p + r.reach) r.read e (omega (arith, g.used)) (omega (arith, g.far)) (omega (arith, g.cells, g.used))
-
 -- A slice whose rest was lent and came back.
 lent_back : (s v : List ℕ) (u : ℕ) {y : List ℕ} → y ≡ front v (take (length s - u) (drop u s)) → put_mid u (length s - u) s y ≡ take u s ++ front v (drop u s)
 lent_back s v u e =
@@ -85,30 +82,30 @@ lent_back s v u e =
 
 -- A token that was read is the next item.
 module _ (is_name : List ℕ → Bool) (t : List ℕ) (at : Progress) (store : List ℕ) {r : Outcome} {o' : List ℕ}
-    (w : Taken (take (length t - at.position) (drop at.position t)) is_name (flags_of at.flags) (take (length store - at.cells) (drop at.cells store)) r o')
+    (w : Taken (take (length t - at.position) (drop at.position t)) is_name (flags_of at.flags) (take (length store - at.counts.cells) (drop at.counts.cells store)) r o')
     (limit : length t ≤ max_chars) (within : at.position ≤ length t) where
-  pub next_is : {c : Coded} {rows rows' : List (List ℕ)} {ended : Bool} → c ≡ item_from r.read (at.position + r.used) r.flags (at.position + r.reach)
-      → rows' ≡ set rows at.items (row_from at.cells c) → ended ≡ is_last c.is_refusal c.number
-      → Next (read_token is_name) t at rows store (record { position = at.position + r.used; flags = r.flags; items = at.items + 1; cells = at.cells + c.length; ended = ended }) rows'
-      (put_mid at.cells (length store - at.cells) store o')
-  next_is {c} {rows} {rows'} {ended} e row last =
+  pub next_is : {row : List ℕ} {rows rows' : List (List ℕ)} {ended : Bool} {n : ℕ} → row ≡ row_with (at.position + r.used) r.flags (at.position + r.reach) at.counts.cells r.read
+      → rows' ≡ set rows at.counts.items row → ended ≡ is_last (eqb (get_or row refused_at 0) 1) (get_or row number_at 0) → n ≡ cell_count r.read
+      → Next (read_token is_name) t at rows store
+      (record { position = at.position + r.used; flags = r.flags; counts = record { items = at.counts.items + 1; cells = at.counts.cells + n }; ended = ended }) rows'
+      (put_mid at.counts.cells (length store - at.counts.cells) store o')
+  next_is {row} {rows} {rows'} {ended} e put last size =
       let p = at.position + r.used in
       let q = at.position + r.reach in
       let s = taken_sound is_name t at.position (flags_of at.flags) w limit within in
       let l = length-drop at.position t in
-      let k : c ≡ item_from (coded w.read) p r.flags q = e ∙ ap (λ x. item_from x p r.flags q) w.shown in
-      let n : c.length ≡ length (cells_of w.read) = size_of p r.flags q (coded w.read) k ∙ cell-count w.read in
+      let c : row ≡ row_with p r.flags q at.counts.cells (coded w.read) = e ∙ ap (row_with p r.flags q at.counts.cells) w.shown in
       record {
         item = item w.read p (flags_of r.flags) q;
         one = taken_item is_name t at.position (flags_of at.flags) w limit within;
         position = refl;
         flags = refl;
-        ended = last ∙ ap (λ x. is_last x.is_refusal x.number) k ∙ ends_is p r.flags q w.read s.formed;
+        ended = last ∙ ap (λ x. is_last (eqb (get_or x refused_at 0) 1) (get_or x number_at 0)) c ∙ ends_is p r.flags q at.counts.cells w.read s.formed;
         written = record {
           count = refl;
-          cells = ap (λ x. at.cells + x) n;
-          row = row ∙ ap (λ x. set rows at.items x) (ap (row_from at.cells) k ∙ row_is p r.flags q at.cells w.read s.formed);
-          value = lent_back store (cells_of w.read) at.cells w.left;
+          cells = ap (λ x. at.counts.cells + x) (size ∙ ap cell_count w.shown ∙ cell-count w.read);
+          row = put ∙ ap (λ x. set rows at.counts.items x) (c ∙ row_is p r.flags q at.counts.cells w.read s.formed);
+          value = lent_back store (cells_of w.read) at.counts.cells w.left;
         };
         short = omega (arith, s.short);
         within = omega (arith, s.in_text);
@@ -116,23 +113,19 @@ module _ (is_name : List ℕ → Bool) (t : List ℕ) (at : Progress) (store : L
         onward = λ h. omega (arith, s.onward h);
       }
 
-pub next_long : {tok : Reader} {t : List ℕ} {at : Progress} {rows : List (List ℕ)} {store : List ℕ} {at' : Progress} {rows' : List (List ℕ)} {store' : List ℕ} → Next tok t at rows store at' rows' store'
-    → at.cells + (length t - at.position) ≤ length store → length store' ≡ length store
-next_long {at = at} {store = store} n h = ap length n.written.value ∙ lay_long at.cells n.item.value store (omega (arith, n.short, n.within))
-
 pub items-step : (tok : Reader) (n : ℕ) (t : List ℕ) (p : ℕ) (f : spec.Flags) {i : Item} → i ≡ item_at tok t p f → items tok (suc n) t p f ≡ i ∷ cond (ends_run i) [] (items tok n t i.position i.flags)
 unfolding items
 items-step tok n t p f e = subst (λ i. items tok (suc n) t p f ≡ i ∷ cond (ends_run i) [] (items tok n t i.position i.flags)) (sym e) refl
 
 module _ {tok : Reader} {k : ℕ} {f : spec.Flags} {t : List ℕ} {rows : List (List ℕ)} {store : List ℕ} {at : Progress} {rows' : List (List ℕ)} {store' : List ℕ} (s : Stands tok k f t rows store at rows' store') where
-  stands_more : {at'' : Progress} {rows'' : List (List ℕ)} {store'' : List ℕ} → Next tok t at rows' store' at'' rows'' store'' → at.ended ≡ false → length t + 2 ≤ length rows → length t ≤ length store
+  pub stands_more : {at'' : Progress} {rows'' : List (List ℕ)} {store'' : List ℕ} → Next tok t at rows' store' at'' rows'' store'' → at.ended ≡ false → length t + 2 ≤ length rows → length t ≤ length store
       → Stands tok k f t rows store at'' rows'' store''
   stands_more {at''} {rows''} {store''} n going room long =
       let i = n.item in
       let few = s.few going in
-      let z : length t + 2 - at.items ≡ suc (length t + 2 - at''.items) = omega (arith, n.written.count, s.within) in
-      let h : s.sofar ++ items tok (suc (length t + 2 - at''.items)) t at.position (flags_of at.flags) ≡ run_items tok k f t = rw (going, z) at s.all in
-      let g : s.sofar ++ (i ∷ cond (ends_run i) [] (items tok (length t + 2 - at''.items) t i.position i.flags)) ≡ run_items tok k f t = rw (items-step tok (length t + 2 - at''.items) t at.position (flags_of at.flags) n.one) at h in
+      let z : length t + 2 - at.counts.items ≡ suc (length t + 2 - at''.counts.items) = omega (arith, n.written.count, s.within) in
+      let h : s.sofar ++ items tok (suc (length t + 2 - at''.counts.items)) t at.position (flags_of at.flags) ≡ run_items tok k f t = rw (going, z) at s.all in
+      let g : s.sofar ++ (i ∷ cond (ends_run i) [] (items tok (length t + 2 - at''.counts.items) t i.position i.flags)) ≡ run_items tok k f t = rw (items-step tok (length t + 2 - at''.counts.items) t at.position (flags_of at.flags) n.one) at h in
       record {
         sofar = s.sofar ++ i ∷ [];
         all = rw (append_assoc, n.ended, n.position, n.flags) g;
@@ -141,19 +134,3 @@ module _ {tok : Reader} {k : ℕ} {f : spec.Flags} {t : List ℕ} {rows : List (
         short = omega (arith, n.written.cells, n.position, n.short, s.short);
         few = λ e. omega (arith, n.written.count, n.position, n.onward (sym n.ended ∙ e));
       }
-
-  -- Behind the item that ends the run.
-  pub stands_all : at.ended ≡ true → s.sofar ≡ run_items tok k f t
-  stands_all e = rw (e, append-nil) at s.all
-
--- A loop goes on from the place that it began at.
-pub record Onward (tok : Reader) (t : List ℕ) (at₀ : Progress) (rows₀ : List (List ℕ)) (store₀ : List ℕ) (at : Progress) (rows : List (List ℕ)) (store : List ℕ) : Type 0 where
-  pub so : {k : ℕ} {f : spec.Flags} {rows_before : List (List ℕ)} {store_before : List ℕ} → Stands tok k f t rows_before store_before at₀ rows₀ store₀ → length t + 2 ≤ length rows_before → length t ≤ length store_before
-      → Stands tok k f t rows_before store_before at rows store
-
-pub onward_none : {tok : Reader} {t : List ℕ} {at : Progress} {rows : List (List ℕ)} {store : List ℕ} → Onward tok t at rows store at rows store
-onward_none = record { so = λ s _ _. s }
-
-pub onward_more : {tok : Reader} {t : List ℕ} {at₀ : Progress} {rows₀ : List (List ℕ)} {store₀ : List ℕ} {at : Progress} {rows : List (List ℕ)} {store : List ℕ} {at' : Progress} {rows' : List (List ℕ)} {store' : List ℕ}
-    → Onward tok t at₀ rows₀ store₀ at rows store → Next tok t at rows store at' rows' store' → at.ended ≡ false → Onward tok t at₀ rows₀ store₀ at' rows' store'
-onward_more o n going = record { so = λ s room long. stands_more (o.so s room long) n going room long }

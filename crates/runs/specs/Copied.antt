@@ -31,11 +31,9 @@ pub record Movable (e : Edit) (m : ℕ) (r : List ℕ) : Type 0 where
   pub near : get_or r reach_at 0 ≤ max_chars + 12
   pub in_store : get_or r start_at 0 + get_or r length_at 0 ≤ m
 
--- The rows from `first` up to `end` are such rows.
-pub record Copyable (e : Edit) (rows : List (List ℕ)) (store : List ℕ) (first end : ℕ) : Type 0 where
-  pub ordered : first ≤ end
-  pub within : end ≤ length rows
-  pub each : (i : ℕ) → first ≤ i → i < end → Movable e (length store) (get_or rows i [])
+-- All rows are such rows.
+pub record Copyable (e : Edit) (rows : List (List ℕ)) (store : List ℕ) : Type 0 where
+  pub each : (i : ℕ) → i < length rows → Movable e (length store) (get_or rows i [])
 
 -- One item is written behind n others and c value cells.
 pub record Copied (i : Item) (n c : ℕ) (rows : List (List ℕ)) (store : List ℕ) (n' c' : ℕ) (rows' : List (List ℕ)) (store' : List ℕ) : Type 0 where

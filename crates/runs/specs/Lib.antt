@@ -10,3 +10,4 @@ pub mod Print
 pub mod Coded
 pub mod Ran
 pub mod Copied
+pub mod Lending

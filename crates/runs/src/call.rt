@@ -1,55 +1,40 @@
 // What run and repair answer, and what both check first.
-ghost use Rattle.std.specs.Prelude.{◌≡◌, length};
+ghost use Rattle.std.specs.Prelude.{◌≡◌, length, IfOk};
 ghost use Rattle.reading.specs.Slices.{zeros};
-ghost use Rattle.scope.specs.Answers.{lent};
 ghost use Rattle.runs.specs.Ran as ran;
+ghost use Rattle.runs.specs.Lending.{lent_of, sound_of};
 
-use scope::scope::{Scope, Slot};
+use crate::room::Room;
+use scope::lent::{Lent, Sound};
 use text::refusal::Refusal;
 use text::utf8::Text;
 
-// A record's number of rows and of value cells, or the number of a refusal.
+// How many rows and value cells a record has.
 #[derive(Clone, Copy)]
-pub enum Made {
-    Record(usize, usize),
-    Refused(u32),
+pub struct Counts {
+    pub items: usize,
+    pub cells: usize,
 }
 
 // Sets all of scratch to 0.
 pub fn clear(scratch: &mut [u32])
     ensures { scratch.new ≡ zeros (length scratch.old) }
 {
-    let n = scratch.len();
-    naming::prefix::clear(scratch, n);
+    scratch.fill(0);
 }
 
-// The refusal of a text of n characters where so many rows, store cells and scratch cells are lent; 0 is none.
+// The scope that was lent, unless a text of n characters is refused.
 // Ruled out, among others: a short slice told before a broken scope; a record as long as the text, with no row for the start item.
-pub fn refusal(
-    n: usize,
-    s: Scope,
-    slots: &[[u32; Slot::NUMBERS]],
-    names: &[[u32; Scope::MAX_NAME]],
-    rows: usize,
-    store: usize,
-    scratch: usize,
-) -> u32
-    ensures { result ≡ ran.refusal (lent s slots.now names.now) n rows store scratch }
+pub fn checked<'a>(n: usize, scope: Lent<'a>, room: &Room<'_>) -> Result<Sound<'a>, Refusal>
+    ensures answer { ran.number result ≡ ran.refusal (lent_of scope.entry) n (length room.now.rows.now) (length room.now.store.now) (length room.now.scratch.now) }
+    ensures scope { IfOk result (λ s. sound_of s ≡ lent_of scope.entry) }
 {
     if Text::MAX_CHARS < n {
-        return Refusal::TOO_LONG;
+        return Err(Refusal::TooLong);
     }
-    if scope::broken::is_broken(s, slots, names) {
-        return Refusal::BROKEN_SCOPE;
+    let sound = scope.checked().ok_or(Refusal::BrokenScope)?;
+    if room.rows.len() < n + 2 || room.store.len() < n || room.scratch.len() < 2 * n {
+        return Err(Refusal::ShortSlice);
     }
-    if rows < n + 2 {
-        return Refusal::SHORT_SLICE;
-    }
-    if store < n {
-        return Refusal::SHORT_SLICE;
-    }
-    if scratch < 2 * n {
-        return Refusal::SHORT_SLICE;
-    }
-    Refusal::NONE
+    Ok(sound)
 }

@@ -1,31 +1,26 @@
 // An item of a run, and its row of eleven numbers.
-ghost use Rattle.std.specs.Prelude.{◌≡◌, ◌≤◌, ◌<◌, length, set};
+ghost use Rattle.std.specs.Prelude.{◌≡◌, ◌≤◌, eqb, get_or};
 ghost use Rattle.text.specs.Limits.{max_chars};
-ghost use Rattle.lexer.specs.FlagsOf.{flags_of};
 ghost use Rattle.lexer.specs.Answered.{cell_count};
 ghost use Rattle.lexer.specs.Read.{is_last};
-ghost use Rattle.runs.specs.Item as spec;
-ghost use Rattle.runs.specs.Record.{flag_bits, bit_flags};
-ghost use Rattle.runs.specs.Coded.{plain, item_from, Small, row_from};
+ghost use Rattle.runs.specs.Record.{refused_at, number_at};
+ghost use Rattle.runs.specs.Coded.{Small, row_from};
 
 use lexer::flags::Flags;
 use lexer::token::Read;
 use lexer::token_type::TokenType;
 
-// 01: type or refusal, position and flags after, and reach; of the value the length, a number's three lengths, and a Boolean, a sign or a carry.
+// What was read, and the position, flags and reach behind it.
 #[derive(Clone, Copy)]
 pub struct Item {
-    pub is_refusal: bool,
-    pub number: u32,
+    pub read: Read,
     pub position: usize,
     pub flags: Flags,
     pub reach: usize,
-    pub length: usize,
-    pub before: usize,
-    pub after: usize,
-    pub exponent: usize,
-    pub extra: u32,
 }
+
+// 01: type or refusal, position and flags after, and reach; of the value its start in the store, its length, a number's three lengths, and a Boolean, a sign or a carry.
+pub type Row = [u32; Item::NUMBERS];
 
 impl Item {
     // The places in a row.
@@ -54,147 +49,65 @@ impl Item {
     // How many numbers a row has.
     pub const NUMBERS: usize = 11;
 
-    // The item of a reading, with the position, flags and reach behind it.
-    pub fn new(read: Read, position: usize, flags: Flags, reach: usize) -> Item
-        requires { cell_count read ≤ max_chars }
-        ensures { result ≡ item_from read position flags reach }
+    // How many cells the value has.
+    // Ruled out, among others: a number counted without its exponent.
+    pub fn cell_count(self) -> usize
+        requires { cell_count self.read ≤ max_chars }
+        ensures { result ≡ cell_count self.read }
     {
-        match read {
-            Read::Plain(k) => token(k, position, flags, reach, 0),
-            Read::Boolean(b) => {
-                let extra = bit(b);
-                Item {
-                    is_refusal: false,
-                    number: TokenType::BOOLEAN,
-                    position,
-                    flags,
-                    reach,
-                    length: 0,
-                    before: 0,
-                    after: 0,
-                    exponent: 0,
-                    extra,
-                }
-            }
-            Read::Numeric(before, after, minus, exponent) => {
-                let extra = bit(minus);
-                Item {
-                    is_refusal: false,
-                    number: TokenType::NUMERIC,
-                    position,
-                    flags,
-                    reach,
-                    length: before + after + exponent,
-                    before,
-                    after,
-                    exponent,
-                    extra,
-                }
-            }
-            Read::Chars(k, n) => token(k, position, flags, reach, n),
-            Read::Refused(n, c) => Item {
-                is_refusal: true,
-                number: n,
-                position,
-                flags,
-                reach,
-                length: 0,
-                before: 0,
-                after: 0,
-                exponent: 0,
-                extra: c,
-            },
+        match self.read {
+            Read::Numeric(before, after, _, exponent) => before + after + exponent,
+            Read::Chars(_, n) => n,
+            _ => 0,
         }
     }
-}
 
-// A token with so many value cells and nothing beside them.
-fn token(k: u32, position: usize, flags: Flags, reach: usize, length: usize) -> Item
-    ensures { result ≡ plain k position flags reach length }
-{
-    Item {
-        is_refusal: false,
-        number: k,
-        position,
-        flags,
-        reach,
-        length,
-        before: 0,
-        after: 0,
-        exponent: 0,
-        extra: 0,
+    // The row of the item, whose value starts at `start`.
+    // Ruled out, among others: a number cut off at 32 bits; a row that keeps what an earlier run wrote where this item has nothing.
+    pub fn row(self, start: usize) -> Row
+        requires { Small self × (start ≤ max_chars) }
+        ensures { result ≡ row_from start self }
+    {
+        let length = self.cell_count() as u32;
+        let (refused, number, [before, after, exponent, extra]) = match self.read {
+            Read::Plain(k) => (false, k, [0; 4]),
+            Read::Boolean(b) => (false, TokenType::BOOLEAN, [0, 0, 0, u32::from(b)]),
+            Read::Numeric(before, after, minus, exponent) => (
+                false,
+                TokenType::NUMERIC,
+                [
+                    before as u32,
+                    after as u32,
+                    exponent as u32,
+                    u32::from(minus),
+                ],
+            ),
+            Read::Chars(k, _) => (false, k, [0; 4]),
+            Read::Refused(n, carry) => (true, n, [0, 0, 0, carry]),
+        };
+        [
+            u32::from(refused),
+            number,
+            self.position as u32,
+            u32::from(self.flags),
+            self.reach as u32,
+            start as u32,
+            length,
+            before,
+            after,
+            exponent,
+            extra,
+        ]
     }
 }
 
-// Whether a run ends with this item.
-pub fn ends_run(item: Item) -> bool
-    ensures { result ≡ is_last item.is_refusal item.number }
+// Whether a run ends with the item of this row.
+pub fn ends_run(row: &Row) -> bool
+    ensures { result ≡ is_last (eqb (get_or row.now refused_at 0) 1) (get_or row.now number_at 0) }
 {
-    if item.is_refusal {
-        return true;
-    }
-    let n = item.number;
-    if TokenType::YY_EOF == n {
-        return true;
-    }
-    if TokenType::YY_UNDEF == n {
-        return true;
-    }
-    if TokenType::YY_ERROR == n {
-        return true;
-    }
-    false
-}
-
-fn bit(b: bool) -> u32
-    ensures { (result ≡ spec.bit b) × (result ≤ 1) }
-{
-    if b {
-        return 1;
-    }
-    0
-}
-
-// Flags as one number.
-pub fn flag_bits(flags: Flags) -> u32
-    ensures { result ≡ flag_bits (flags_of flags) }
-{
-    u32::from(flags)
-}
-
-// The flags of a number.
-pub fn bit_flags(n: u32) -> Flags
-    ensures { flags_of result ≡ bit_flags n }
-{
-    Flags::from_bits(n)
-}
-
-// The row of an item whose value starts at `start`.
-fn row_of(item: Item, start: usize) -> [u32; Item::NUMBERS]
-    requires { Small item × (start ≤ max_chars) }
-    ensures { result ≡ row_from start item }
-{
-    let mut row: [u32; Item::NUMBERS] = [0; Item::NUMBERS];
-    row[Item::REFUSED] = bit(item.is_refusal);
-    row[Item::NUMBER] = item.number;
-    row[Item::POSITION] = item.position as u32;
-    row[Item::FLAGS] = flag_bits(item.flags);
-    row[Item::REACH] = item.reach as u32;
-    row[Item::START] = start as u32;
-    row[Item::LENGTH] = item.length as u32;
-    row[Item::BEFORE] = item.before as u32;
-    row[Item::AFTER] = item.after as u32;
-    row[Item::EXPONENT] = item.exponent as u32;
-    row[Item::EXTRA] = item.extra;
-    row
-}
-
-// Writes the row of an item, whose value starts at `start`, to the place `at`.
-// Ruled out, among others: a number cut off at 32 bits; a row that keeps what an earlier run wrote where this item has nothing.
-pub fn put_row(rows: &mut [[u32; Item::NUMBERS]], at: usize, item: Item, start: usize)
-    requires { (at < length rows.old) × Small item × (start ≤ max_chars) }
-    ensures { rows.new ≡ set rows.old at (row_from start item) }
-{
-    let row = row_of(item, start);
-    rows[at] = row;
+    row[Item::REFUSED] == 1
+        || matches!(
+            row[Item::NUMBER],
+            TokenType::YY_EOF | TokenType::YY_UNDEF | TokenType::YY_ERROR
+        )
 }

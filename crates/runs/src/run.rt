@@ -2,22 +2,23 @@
 ghost use Rattle.std.specs.Prelude.{◌≡◌, true, false, List, ℕ, ◌+◌, ◌-◌, ◌*◌, ◌≤◌, ◌<◌, length};
 ghost use Rattle.text.specs.Limits.{max_chars};
 ghost use Rattle.scope.specs.Keys.{is_name};
-ghost use Rattle.scope.specs.Capped.{Capped};
-ghost use Rattle.scope.specs.Lent.{is_broken, scope_of};
-ghost use Rattle.scope.specs.Answers.{lent};
+ghost use Rattle.scope.specs.Sound.{sound_scope};
 ghost use Rattle.lexer.specs.Fit.{Clear};
 ghost use Rattle.lexer.specs.FlagsOf.{flags_of};
 ghost use Rattle.lexer.specs.Token.{read_token};
-ghost use Rattle.runs.specs.Run.{Reader};
+ghost use Rattle.runs.specs.Run.{Reader, run_items};
+ghost use Rattle.runs.specs.Copied.{Behind};
 ghost use Rattle.runs.specs.Ran.{Ran, Next, Stands};
+ghost use Rattle.runs.specs.Lending.{lent_of, room_of, SameSlices};
 
-use crate::call::Made;
-use crate::item::Item;
+use crate::call::Counts;
+use crate::item::{Item, Row};
+use crate::room::Room;
 use crate::{call, item};
 use lexer::flags::Flags;
 use lexer::token::Read;
-use scope::lent::Sound;
-use scope::scope::{Scope, Slot};
+use scope::lent::{Lent, Sound};
+use search::known::Known;
 use text::refusal::Refusal;
 
 // Where a run stands: behind the last item, with so many items and value cells, and whether that item ended it.
@@ -25,136 +26,100 @@ use text::refusal::Refusal;
 pub struct Progress {
     pub position: usize,
     pub flags: Flags,
-    pub items: usize,
-    pub cells: usize,
+    pub counts: Counts,
     pub ended: bool,
 }
 
 // Writes the start item.
-fn put_start(start_type: u32, flags: Flags, rows: &mut [[u32; Item::NUMBERS]]) -> Progress
+fn put_start(start_type: u32, flags: Flags, rows: &mut [Row]) -> Progress
     requires { 0 < length rows.old }
     ensures { (tok : Reader) (t store : List ℕ) → Stands tok start_type (flags_of flags) t rows.old store result rows.new store }
 {
-    let k = tokens::call::start_number(start_type);
-    let i = Item::new(Read::Plain(k), 0, flags, 0);
-    item::put_row(rows, 0, i, 0);
-    let ended = item::ends_run(i);
+    let start = Item {
+        read: Read::Plain(tokens::call::start_number(start_type)),
+        position: 0,
+        flags,
+        reach: 0,
+    };
+    let row = start.row(0);
+    rows[0] = row;
     Progress {
         position: 0,
         flags,
-        items: 1,
-        cells: 0,
-        ended,
+        counts: Counts { items: 1, cells: 0 },
+        ended: item::ends_run(&row),
     }
 }
 
 // Reads the next item: its value goes behind the last one, its row behind the last row.
 // Ruled out, among others: a value that ends outside the store; an item that takes no character and does not end the run.
-pub fn read_item(
-    text: &[u32],
-    at: Progress,
-    s: Scope,
-    slots: &[[u32; Slot::NUMBERS]],
-    names: &[[u32; Scope::MAX_NAME]],
-    cap: usize,
-    rows: &mut [[u32; Item::NUMBERS]],
-    store: &mut [u32],
-    scratch: &mut [u32],
-) -> Progress
-    requires { (length text.now ≤ max_chars) × (at.cells + (length text.now - at.position) ≤ length store.old) × (2 * length text.now ≤ length scratch.old)
-        × (at.position ≤ length text.now) × (at.cells ≤ max_chars) × (at.items < length rows.old) × (at.items ≤ max_chars + 1)
-        × (is_broken (lent s slots.now names.now) ≡ false) × Clear scratch.old × Capped (is_name (scope_of (lent s slots.now names.now))) cap }
-    ensures { Next (read_token (is_name (scope_of (lent s slots.now names.now)))) text.now at rows.old store.old result rows.new store.new
-        × (scratch.new ≡ scratch.old) }
+pub fn read_item(text: &[u32], at: Progress, known: Known, room: &mut Room) -> Progress
+    requires { (length text.now ≤ max_chars) × (at.counts.cells + (length text.now - at.position) ≤ length room.old.store.now) × (2 * length text.now ≤ length room.old.scratch.now)
+        × (at.position ≤ length text.now) × (at.counts.cells ≤ max_chars) × (at.counts.items < length room.old.rows.now) × (at.counts.items ≤ max_chars + 1) × Clear room.old.scratch.now }
+    ensures next { Next (read_token (is_name (sound_scope known.entry.scope))) text.now at room.old.rows.now room.old.store.now result room.new.rows.now room.new.store.now }
+    ensures clear { room.new.scratch.now ≡ room.old.scratch.now }
+    ensures same { SameSlices room.old room.new }
 {
-    let p = at.position;
-    let u = at.cells;
+    let Counts { items, cells } = at.counts;
+    let scope = known.scope;
     let o = tokens::token::read_token(
-        &text[p..],
+        &text[at.position..],
         at.flags,
-        s,
-        slots,
-        names,
-        cap,
-        &mut store[u..],
-        scratch,
+        scope.counts,
+        scope.slots,
+        scope.names,
+        known.cap,
+        &mut room.store[cells..],
+        room.scratch,
     );
-    let read = o.read;
-    let flags = o.flags;
-    let looked = o.reach;
-    let i = Item::new(read, p + o.used, flags, p + looked);
-    item::put_row(rows, at.items, i, u);
-    let ended = item::ends_run(i);
+    let next = Item {
+        read: o.read,
+        position: at.position + o.used,
+        flags: o.flags,
+        reach: at.position + o.reach,
+    };
+    let row = next.row(cells);
+    room.rows[items] = row;
     Progress {
-        position: p + o.used,
-        flags,
-        items: at.items + 1,
-        cells: u + i.length,
-        ended,
+        position: next.position,
+        flags: next.flags,
+        counts: Counts {
+            items: items + 1,
+            cells: cells + next.cell_count(),
+        },
+        ended: item::ends_run(&row),
     }
 }
 
 // Reads all items of a run.
-fn read_items(
-    text: &[u32],
-    start_type: u32,
-    flags: Flags,
-    s: Scope,
-    slots: &[[u32; Slot::NUMBERS]],
-    names: &[[u32; Scope::MAX_NAME]],
-    rows: &mut [[u32; Item::NUMBERS]],
-    store: &mut [u32],
-    scratch: &mut [u32],
-) -> Progress
-    requires { (length text.now ≤ max_chars) × (length text.now + 2 ≤ length rows.old) × (length text.now ≤ length store.old) × (2 * length text.now ≤ length scratch.old)
-        × (is_broken (lent s slots.now names.now) ≡ false) × Clear scratch.old }
-    ensures { Stands (read_token (is_name (scope_of (lent s slots.now names.now)))) start_type (flags_of flags) text.now rows.old store.old result rows.new store.new
-        × (result.ended ≡ true) × (scratch.new ≡ scratch.old) }
+fn read_items(text: &[u32], start_type: u32, flags: Flags, scope: Sound, room: &mut Room) -> Counts
+    requires { (length text.now ≤ max_chars) × (length text.now + 2 ≤ length room.old.rows.now) × (length text.now ≤ length room.old.store.now) × (2 * length text.now ≤ length room.old.scratch.now)
+        × Clear room.old.scratch.now }
+    ensures ran { Behind 0 0 room.old.rows.now room.old.store.now (run_items (read_token (is_name (sound_scope scope.entry))) start_type (flags_of flags) text.now) result.items result.cells room.new.rows.now room.new.store.now }
+    ensures clear { room.new.scratch.now ≡ room.old.scratch.now }
+    ensures same { SameSlices room.old room.new }
 {
-    let cap = search::longest::longest_key(Sound {
-        counts: s,
-        slots,
-        names,
-    });
-    let mut at = put_start(start_type, flags, rows);
+    let known = Known::of(scope);
+    let mut at = put_start(start_type, flags, room.rows);
     while !at.ended {
-        at = read_item(text, at, s, slots, names, cap, rows, store, scratch);
+        at = read_item(text, at, known, room);
     }
-    at
+    at.counts
 }
 
-// The record of a run over a text, from a start type and opening flags: its rows and its values fill the fronts of rows and store.
+// The record of a run over a text, from a start type and opening flags: its rows and its values fill the fronts of the room's rows and store.
 // Ruled out, among others: a value written over the last one; a refusal that leaves scratch as it was found.
 pub fn run(
     text: &[u32],
     start_type: u32,
     flags: Flags,
-    s: Scope,
-    slots: &[[u32; Slot::NUMBERS]],
-    names: &[[u32; Scope::MAX_NAME]],
-    rows: &mut [[u32; Item::NUMBERS]],
-    store: &mut [u32],
-    scratch: &mut [u32],
-) -> Made
-    ensures { Ran (lent s slots.now names.now) start_type (flags_of flags) text.now
-        (record { rows = rows.entry.now; store = store.old; scratch = scratch.old }) result
-        (record { rows = rows.exit.now; store = store.new; scratch = scratch.new }) }
+    scope: Lent,
+    room: &mut Room,
+) -> Result<Counts, Refusal>
+    ensures ran { Ran (lent_of scope.entry) start_type (flags_of flags) text.now (room_of room.old) result (room_of room.new) }
+    ensures same { SameSlices room.old room.new }
 {
-    call::clear(scratch);
-    let n = call::refusal(
-        text.len(),
-        s,
-        slots,
-        names,
-        rows.len(),
-        store.len(),
-        scratch.len(),
-    );
-    if Refusal::NONE < n {
-        return Made::Refused(n);
-    }
-    let at = read_items(
-        text, start_type, flags, s, slots, names, rows, store, scratch,
-    );
-    Made::Record(at.items, at.cells)
+    call::clear(room.scratch);
+    let sound = call::checked(text.len(), scope, room)?;
+    Ok(read_items(text, start_type, flags, sound, room))
 }

@@ -1,11 +1,13 @@
--- Each row before i is written, and there is room for the rest.
-use Prim.Native.Nat.{◌-◌}
-use Rattle.runs.specs.Copied.{edit_of}
-use Rattle.runs.proofs.BehindLaws.{Copying}
+-- The rows passed are written.
+use mathlib.Core.Path.{◌≡◌}
+use lib.ListN.{take}
+use Rattle.runs.specs.Copied.{edit_of, moved_items, Behind}
+use Rattle.runs.specs.Lending.{SameSlices}
 use Rattle.repair.proofs.copy.copy_items.Given as goal
 
-abbrev pub invariant-loop-i : goal.invariant-loop-i
-invariant-loop-i l = Copying (edit_of l.e) l.old_rows l.old_store l.initial.i l.end l.initial.at.items l.initial.at.cells l.initial.rows l.initial.store l.i l.at.items l.at.cells l.rows l.store
-
-abbrev pub decreases-loop-i : goal.decreases-loop-i
-decreases-loop-i l = l.end - l.i
+abbrev pub invariant-loop-row : goal.invariant-loop-row
+invariant-loop-row l = record {
+  behind : Behind l.fn.written.items l.fn.written.cells l.fn.room.rows.now l.fn.room.store.now (moved_items (edit_of l.e) (take l.row-index l.old.rows.now) l.old.store.now) l.at.items l.at.cells l.room.rows.now l.room.store.now;
+  scratch : l.room.scratch.now ≡ l.fn.room.scratch.now;
+  same : SameSlices l.fn.room l.room;
+}

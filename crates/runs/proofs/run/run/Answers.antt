@@ -1,22 +1,16 @@
 -- The three checks, then the run behind its last item.
-use Rattle.runs.proofs.CallLaws.{passes}
-use lib.ListN.{length}
-use native.Mathlib.Omega.{arith}
-use Rattle.runs.proofs.RunCallLaws.{clear-zeros, run_refused, run_made}
+use mathlib.Core.Path.{ap}
+use Rattle.std.proofs.lemmas.Result.{err_from_is_err_and}
+use Rattle.scope.specs.Lent.{scope_of}
+use Rattle.runs.proofs.RunCallLaws.{run_refused, run_made}
 use Rattle.runs.proofs.run.run.Goals as goal
 
-pub returns-then-n-gt-NONE : goal.returns-then-n-gt-NONE
-returns-then-n-gt-NONE c =
-    let a = c.args in
-    run_refused _ a.start_type _ a.text.now a.rows.now a.store.now a.scratch.now c.clear.ensures c.refusal-n.ensures (omega arith)
+pub returns-in_err-sound-clause-ran : goal.returns-in_err-sound-clause-ran
+returns-in_err-sound-clause-ran c =
+    let p = err_from_is_err_and c.from_residual.result c.from_residual.ensures.1 in
+    rw (p.1, p.2) (run_refused _ _ _ _ _ _ _ c.clear.ensures _ c.in_err-sound.ensures.answer)
 
-pub read_items-at-requires : goal.read_items-at-requires
-read_items-at-requires c =
-    let a = c.args in
-    let p = passes _ (length a.text.now) (length a.rows.now) (length a.store.now) _ _ c.refusal-n.ensures (omega arith) in
-    (p.within, p.rows_long, p.store_long, p.scratch_long, p.whole, clear-zeros a.scratch.now c.clear.ensures)
-
-pub returns : goal.returns
-returns c =
-    let a = c.args in
-    run_made _ a.start_type _ a.text.now a.rows.now a.store.now a.scratch.now c.clear.ensures c.refusal-n.ensures (omega arith) c.read_items-at.ensures.0 c.read_items-at.ensures.1 c.read_items-at.ensures.2
+pub returns-clause-ran : goal.returns-clause-ran
+returns-clause-ran c =
+    let b = rw (ap scope_of c.in_ok-sound.ensures.scope) at c.read_items.ensures.ran in
+    run_made _ _ _ _ _ _ _ c.clear.ensures c.in_ok-sound.ensures.answer b c.read_items.ensures.clear
