@@ -4,7 +4,6 @@ ghost use Rattle.feel_lexer.specs.Exported as spec;
 
 use crate::answer;
 use crate::answer::Answer;
-use text::utf8::Opening;
 
 // Opens the bytes, and writes how many characters there are, or the place of a refusal.
 fn opened(bytes: &[u8], cells: &mut [u32], answer: &mut [usize]) -> Result<(), u32>
@@ -12,7 +11,7 @@ fn opened(bytes: &[u8], cells: &mut [u32], answer: &mut [usize]) -> Result<(), u
 {
     answer::checked(answer, true)?;
     match text::utf8::open_bytes(bytes, cells) {
-        Opening::Opened(t) => {
+        Ok(t) => {
             Answer {
                 length: t.chars,
                 ..Answer::EMPTY
@@ -20,13 +19,13 @@ fn opened(bytes: &[u8], cells: &mut [u32], answer: &mut [usize]) -> Result<(), u
             .write(answer);
             Ok(())
         }
-        Opening::Refused(n, place) => {
+        Err(r) => {
             Answer {
-                place,
+                place: r.place,
                 ..Answer::EMPTY
             }
             .write(answer);
-            Err(n)
+            Err(u32::from(r.refusal))
         }
     }
 }

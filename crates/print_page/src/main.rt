@@ -12,7 +12,6 @@ use runs::item::Item;
 use scope::scope::{Scope, Slot};
 use std::io;
 use text::refusal::Refusal;
-use text::utf8::Opening;
 
 // Of a longer rule the first bytes are read.
 const MAX_INPUT: usize = 128;
@@ -117,7 +116,7 @@ fn main(rt: HostRuntime) -> io::Result<()> {
     let mut cells = [0u32; MAX_INPUT];
     let opening = text::utf8::open_bytes(&bytes[..n], &mut cells);
     match opening {
-        Opening::Opened(t) => print_front(&rt, &cells, t.chars),
-        Opening::Refused(k, place) => refused(&rt, k, place),
+        Ok(t) => print_front(&rt, &cells, t.chars),
+        Err(r) => refused(&rt, u32::from(r.refusal), r.place),
     }
 }

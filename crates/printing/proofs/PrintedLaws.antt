@@ -1,5 +1,5 @@
 -- What is opened is no longer than its bytes, and what a run leaves is the record of its items.
-use Rattle.std.specs.Prelude.{Option, None, Some}
+use Rattle.std.specs.Prelude.{Option, None, Some, Result, Ok, Err}
 use mathlib.Core.Path.{◌≡◌, refl, sym, ap, ◌∙◌, subst}
 use mathlib.Core.Bool.{false}
 use mathlib.Core.List.{List, [], ◌∷◌}
@@ -16,9 +16,6 @@ use Rattle.text.specs.Limits.{max_chars, max_bytes}
 use Rattle.text.specs.Refusals.{too_long, short_slice}
 use Rattle.text.specs.Utf8.{Decoded, chars, bad_at, sequence, with_char, decoded_from, decoded, Opened, opened, refused, opening, open_bytes, opened_output}
 use Rattle.text.specs.Opening.{opening_of}
-use Rattle.text.specs.declared.utf8.Opening.{Opening}
-use Rattle.text.specs.declared.utf8.Opening.TheVariants as answers
-use Rattle.text.specs.declared.utf8.Text.{Text}
 use Rattle.scope.specs.Entries as entries
 use Rattle.scope.specs.Keys.{is_name}
 use Rattle.scope.specs.Lent.{Lent, is_broken, scope_of}
@@ -81,7 +78,7 @@ pub record Text-in (bytes cells : List ℕ) (n : ℕ) : Type 0 where
 pub printed_long : (bytes : List ℕ) → max_input < length bytes → refused_line too_long 0 ≡ printed bytes
 printed_long bytes h = rw (lt-ltb max_input (length bytes) h)
 
-module _ (bytes cells : List ℕ) (few : length bytes ≤ max_input) (room : length cells ≡ max_input) {r : Opening} (answer : r ≡ opening_of (open_bytes bytes (length cells))) where
+module _ (bytes cells : List ℕ) (few : length bytes ≤ max_input) (room : length cells ≡ max_input) {r : Result ℕ (ℕ × ℕ)} (answer : r ≡ opening_of (open_bytes bytes (length cells))) where
   all-fits : open_bytes bytes (length cells) ≡ open_bytes bytes max_chars
   all-fits = rw (le-ltb max_bytes (length bytes) (omega arith)) (any_room (length cells) (decoded bytes) (omega (arith, few_chars 0 0 bytes)) (omega arith))
 
@@ -91,27 +88,29 @@ module _ (bytes cells : List ℕ) (few : length bytes ≤ max_input) (room : len
   printed-is : printed_of (open_bytes bytes max_chars) ≡ printed bytes
   printed-is = rw (le-ltb max_input (length bytes) few)
 
-  pub printed_refused : {n p : ℕ} → r ≡ answers.Refused n p → refused_line n p ≡ printed bytes
+  pub printed_refused : {n p : ℕ} → r ≡ Err (n, p) → refused_line n p ≡ printed bytes
   printed_refused {n} {p} e = go (open_bytes bytes max_chars) (sym e ∙ answer ∙ ap opening_of all-fits) ∙ printed-is
     where
-      go : (o : Opened) → answers.Refused n p ≡ opening_of o → refused_line n p ≡ printed_of o
+      go : (o : Opened) → ◌≡◌ {A = Result ℕ (ℕ × ℕ)} (Err (n, p)) (opening_of o) → refused_line n p ≡ printed_of o
       go (opened cs) q = cc
-      go (refused m s) q = cc
+      go (refused m s) q =
+          let r : ◌≡◌ {A = ℕ × ℕ} (n, p) (m, s) = cc in
+          rw (ap (λ x. x.0) r, ap (λ x. x.1) r)
 
-  pub printed_text : {cells' : List ℕ} → cells' ≡ opened_output (open_bytes bytes (length cells)) cells → {t : Text} → r ≡ answers.Opened t → Text-in bytes cells' t.chars
-  printed_text {cells'} left {t} e =
+  pub printed_text : {cells' : List ℕ} → cells' ≡ opened_output (open_bytes bytes (length cells)) cells → {n : ℕ} → r ≡ Ok n → Text-in bytes cells' n
+  printed_text {cells'} left {n} e =
       go (open_bytes bytes max_chars) (sym e ∙ answer ∙ ap opening_of all-fits) (left ∙ ap (λ o. opened_output o cells) all-fits) no_more printed-is
     where
-      go : (o : Opened) → answers.Opened t ≡ opening_of o → cells' ≡ opened_output o cells → opened_count o ≤ max_input → printed_of o ≡ printed bytes → Text-in bytes cells' t.chars
+      go : (o : Opened) → ◌≡◌ {A = Result ℕ (ℕ × ℕ)} (Ok n) (opening_of o) → cells' ≡ opened_output o cells → opened_count o ≤ max_input → printed_of o ≡ printed bytes → Text-in bytes cells' n
       go (opened cs) q w h g =
-          let n : t.chars ≡ length cs = cc in
-          let z : take t.chars cells' ≡ cs = rw (n, w) (take-append_seam cs (drop (length cs) cells)) in
+          let m : n ≡ length cs = cc in
+          let z : take n cells' ≡ cs = rw (m, w) (take-append_seam cs (drop (length cs) cells)) in
           record {
-            within = omega (arith, n, ap length w, length-append cs (drop (length cs) cells));
-            short = omega (arith, n, h);
+            within = omega (arith, m, ap length w, length-append cs (drop (length cs) cells));
+            short = omega (arith, m, h);
             same = rw z g;
           }
-      go (refused m s) q w h g = let z : ◌≡◌ {A = ℕ} 0 1 = cc in absurd (omega arith)
+      go (refused k p) q w h g = cc
 
 -- The rows and the store hold the record of n items.
 pub record Recorded (is : List Item) (n : ℕ) (rows : List (List ℕ)) (store : List ℕ) : Type 0 where

@@ -17,7 +17,6 @@ use lexer::token_type::TokenType;
 use runs::call::Made;
 use runs::item::Item;
 use scope::scope::{Scope, Slot};
-use text::utf8::Opening;
 
 // Writes the lines of the record of the first n cells. The default scope has no names, so its rows are never read.
 fn put_record(cells: &[u32], n: usize, out: &mut [u32]) -> usize
@@ -65,7 +64,7 @@ pub fn put_printed(bytes: &[u8], out: &mut [u32]) -> usize
     let mut cells = [0u32; MAX_INPUT];
     let opening = text::utf8::open_bytes(bytes, &mut cells);
     match opening {
-        Opening::Opened(t) => put_record(&cells, t.chars, out),
-        Opening::Refused(n, place) => line::put_refused(n, place, out),
+        Ok(t) => put_record(&cells, t.chars, out),
+        Err(r) => line::put_refused(u32::from(r.refusal), r.place, out),
     }
 }

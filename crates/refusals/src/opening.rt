@@ -2,7 +2,7 @@
 use crate::lent::FILL;
 use crate::{filled, lent, told};
 use std::io;
-use text::utf8::Opening;
+use text::utf8::{Refused, Text};
 
 fn wide(b: u8) -> u32 {
     b as u32
@@ -46,12 +46,12 @@ fn opened(rt: &impl Print, out: &[u32], n: usize) -> io::Result<()> {
 }
 
 // The answer for an output that was filled before the call.
-fn answer(rt: &impl Print, r: Opening, out: &[u32]) -> io::Result<()> {
+fn answer(rt: &impl Print, r: Result<Text, Refused>, out: &[u32]) -> io::Result<()> {
     match r {
-        Opening::Opened(t) => opened(rt, out, t.chars)?,
-        Opening::Refused(n, place) => {
-            told::refused(rt, n)?;
-            told::number(rt, b" at ", place)?;
+        Ok(t) => opened(rt, out, t.chars)?,
+        Err(r) => {
+            told::refused(rt, u32::from(r.refusal))?;
+            told::number(rt, b" at ", r.place)?;
             told::kept(rt, b"; output", filled::is_filled(out, 0, FILL))?;
         }
     }

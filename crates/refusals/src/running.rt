@@ -6,7 +6,7 @@ use lexer::token_type::TokenType;
 use runs::item;
 use runs::item::Item;
 use std::io;
-use text::utf8::{Opening, Text};
+use text::utf8::Text;
 
 // A run over the first n characters, with so many rows, store cells and scratch cells lent.
 fn run_front(
@@ -116,8 +116,8 @@ fn refused(rt: &impl Print, bytes: &[u8]) -> io::Result<()> {
     let r = text::utf8::open_bytes(bytes, &mut cells);
     say::words(rt, bytes)?;
     match r {
-        Opening::Opened(t) => both(rt, &cells, t.chars),
-        Opening::Refused(_, _) => Ok(()),
+        Ok(t) => both(rt, &cells, t.chars),
+        Err(_) => Ok(()),
     }
 }
 

@@ -4,5 +4,4 @@ pub mod HexLaws
 pub mod Lengths
 pub mod Utf8Laws
 pub mod Utf8Loops
-pub mod OpeningLaws
 pub mod Utf8Cases

@@ -1,21 +1,22 @@
 -- Well-formed sequences byte by byte: for each first byte the table leaves one row or none, by computation over the 256 bytes.
-use Rattle.std.specs.Prelude.{Option, None, Some}
+use Rattle.std.specs.Prelude.{None, Some}
 use mathlib.Core.Path.{◌≡◌, refl, sym, ap, ◌∙◌}
 use mathlib.Core.Bool.{Bool, true, false, cond, ◌&&◌, ◌||◌, not, false≢true}
 use mathlib.Core.List.{List, [], ◌∷◌}
-use Prim.Native.Nat.{ℕ, zero, suc, ◌+◌, ◌-◌, ◌*◌, ◌%◌, ◌^◌, ◌≤◌, ◌<◌}
+use Prim.Native.Nat.{ℕ, zero, suc, ◌+◌, ◌-◌, ◌*◌, ◌/◌, ◌%◌, ◌^◌, ◌≤◌, ◌<◌}
 use native.Mathlib.Nat.{mod-eq_of_lt, not-suc-le-zero}
+use native.Mathlib.Numerals.{add-one}
 use native.Mathlib.Omega.{arith}
 use lib.Count.{count_leading_zeros}
 use lib.Dec.{leb, ltb, eqb}
-use borrow.Author.Tests.{leb-true, le-leb, lt-leb, lt-ltb, le-ltb, eqb-true, eqb-false, ne_eqb}
-use lib.ListN.{length, get_or, take, drop, length-take, length-drop}
+use borrow.Author.Tests.{leb-true, le-leb, lt-leb, lt-ltb, le-ltb, eqb-true, ne_eqb}
+use lib.ListN.{length, get_or, take, drop, replicate, length-take, length-replicate, drop_of_length-le}
 use lib.Seq.{drop-cons}
-use Rattle.reading.proofs.Test.{both, either, by_order, below}
+use Rattle.std.specs.List.{list_all}
+use Rattle.reading.proofs.Test.{both, either, below}
 use Rattle.text.specs.Ranges.{to, within}
 use Rattle.text.specs.Utf8.{leading_ones, sequence_length, continuing, well_formed_rows, fits_row, fits_some, append_bits, sequence}
-use Rattle.text.specs.Opening.{sequence_of, second_low, second_high}
-use Rattle.text.specs.declared.utf8.Sequence.TheVariants.{Char, Bad}
+use Rattle.text.specs.Opening.{second_low, second_high}
 
 -- The count of leading ones as the machine gives it.
 abbrev is_count : ℕ → Bool
@@ -56,7 +57,7 @@ fits-admitted ((r ∷ rt) ∷ rs) b cs = go (within r b) (fits-admitted rs b cs)
 
 -- The ranges of the bytes behind a first byte of C2 to F4 with so many leading ones.
 abbrev pub behind : ℕ → ℕ → List (List ℕ)
-behind b ones = to (second_low b) (second_high b) ∷ cond (eqb ones 2) [] (continuing ∷ cond (eqb ones 3) [] (continuing ∷ []))
+behind b ones = to (second_low b) (second_high b) ∷ replicate (ones - 2) continuing
 
 abbrev is_lead : ℕ → Bool
 is_lead b = leb 0xC2 b && leb b 0xF4
@@ -144,164 +145,101 @@ fits-length (r ∷ rs) (b ∷ bs) h = and_false (within r b) (fits-length rs bs 
     and_false true e = e
     and_false false e = refl
 
-behind-length : (b k : ℕ) → 2 ≤ k → k ≤ 4 → length (behind b k) ≡ k - 1
-behind-length b k l h = go (eqb k 2) refl (eqb k 3) refl
-  where
-    go : (x : Bool) → eqb k 2 ≡ x → (y : Bool) → eqb k 3 ≡ y → suc (length (cond x [] (continuing ∷ cond y [] (continuing ∷ [])))) ≡ k - 1
-    go true e y f = let n : k ≡ 2 = eqb-true k 2 e in omega arith
-    go false e true f = let n : k ≡ 3 = eqb-true k 3 f in omega arith
-    go false e false f = by_order k 4 (λ m. by_order k 3 (λ q. absurd (eqb-false k 2 e (omega arith))) (λ q. absurd (eqb-false k 3 f (omega arith)))) (λ m. omega arith)
+-- Bytes of which each is to continue the sequence.
+fits_continuing : (bs : List ℕ) → fits_row (replicate (length bs) continuing) bs ≡ list_all (within continuing) bs
+unfolding fits_row
+fits_continuing [] = refl
+fits_continuing (b ∷ bs) = rw (fits_continuing bs)
 
--- The sequence that begins at i of the bytes, in the order in which code looks at them.
-module _ (t : List ℕ) (i : ℕ) (here : i < length t) (byte : get_or t i 0 < 256) (low : 0xC2 ≤ get_or t i 0) (high : get_or t i 0 ≤ 0xF4) where
-  abbrev first : ℕ
-  first = get_or t i 0
+-- A byte shifted by the count of ones is the power of 2 that cuts the first byte's bits.
+abbrev is_shift : ℕ → Bool
+is_shift n = eqb (128 / 2 ^ n) (2 ^ (7 - n)) && (leb 1 (128 / 2 ^ n) && leb (128 / 2 ^ n) 128)
 
-  cells : (j : ℕ) → i + j < length t → drop (i + j) t ≡ get_or t (i + j) 0 ∷ drop (i + suc j) t
-  cells j h = let e : suc (i + j) ≡ i + suc j = omega arith in drop-cons t (i + j) 0 h ∙ rw e
+pub record Shift (n : ℕ) : Type 0 where
+  pub is : 128 / 2 ^ n ≡ 2 ^ (7 - n)
+  pub over : 1 ≤ 128 / 2 ^ n
+  pub under : 128 / 2 ^ n ≤ 128
 
-  module _ (k : ℕ) (count : leading_ones first ≡ suc k) where
-    opened : sequence (drop i t) ≡ cond (fits_row (behind first (suc k)) (take k (drop (i + 1) t))) (Some (append_bits (first % 2 ^ (7 - suc k)) (take k (drop (i + 1) t)), suc k)) None
-    opened = let s : suc i ≡ i + 1 = omega arith in rw (drop-cons t i 0 here, s) (sequence_lead first (drop (i + 1) t) byte low high k count)
+pub shift_lem : (n : ℕ) → n < 8 → Shift n
+shift_lem n h =
+    let t = both (eqb (128 / 2 ^ n) (2 ^ (7 - n))) _ (below is_shift 8 refl n h) in
+    let u = both (leb 1 (128 / 2 ^ n)) (leb (128 / 2 ^ n) 128) t.1 in
+    record { is = eqb-true _ _ t.0; over = leb-true _ _ u.0; under = leb-true _ _ u.1 }
 
-    long_short : length t - i < suc k → Bad ≡ sequence_of (sequence (drop i t))
-    long_short h =
-        let n = few_ones first byte low high in
-        let l = length-take k (drop (i + 1) t) in
-        let d = length-drop (i + 1) t in
-        let b = behind-length first (suc k) (omega arith) (omega arith) in
-        rw (opened, fits-length (behind first (suc k)) (take k (drop (i + 1) t)) (omega arith))
+-- The sequence of a first byte of C2 to F4, as code reads it: the count of its ones tells how many bytes are behind it, and those are tested.
+module _ (b : ℕ) (bs : List ℕ) (byte : b < 256) (lead : (0xC2 ≤ b) × (b ≤ 0xF4)) {ones : ℕ} (count : ones ≡ leading_ones b) where
+  few : (2 ≤ ones) × (ones ≤ 4)
+  few = let n = few_ones b byte lead.0 lead.1 in omega arith
 
-  module _ (k : ℕ) (count : leading_ones first ≡ suc (suc k)) (there : i + 1 < length t) where
-    long_second : within (to (second_low first) (second_high first)) (get_or t (i + 1) 0) ≡ false → Bad ≡ sequence_of (sequence (drop i t))
+  opened : sequence (b ∷ bs) ≡ cond (fits_row (behind b ones) (take (ones - 1) bs)) (Some (append_bits (b % 2 ^ (7 - ones)) (take (ones - 1) bs), ones)) None
+  opened = let n = few in let e : suc (ones - 1) ≡ ones = omega arith in rw e at (sequence_lead b bs byte lead.0 lead.1 (ones - 1) (sym count ∙ sym e))
+
+  pub long_short : length bs < ones - 1 → None ≡ sequence (b ∷ bs)
+  long_short h =
+      let n = few in
+      let l = length-take (ones - 1) bs in
+      let r = length-replicate (ones - 2) continuing in
+      rw (opened, fits-length (behind b ones) (take (ones - 1) bs) (omega arith))
+
+  module _ {t ds : List ℕ} {c : ℕ} (tail : t ≡ take (ones - 1 - 0) bs) (parts : t ≡ c ∷ ds) (many : length t ≡ ones - 1) where
+    tested : sequence (b ∷ bs) ≡ cond (within (to (second_low b) (second_high b)) c && list_all (within continuing) ds) (Some (append_bits (b % 2 ^ (7 - ones)) t, ones)) None
     unfolding fits_row
-    long_second e = rw (opened (suc k) count, cells 1 there, e)
+    tested =
+        let n = few in
+        let z : ones - 1 - 0 ≡ ones - 1 = omega arith in
+        let l : ones - 2 ≡ length ds = omega (arith, ap length parts) in
+        rw (opened, ← z, ← tail, parts, l, fits_continuing ds)
 
-  module _ (second : within (to (second_low first) (second_high first)) (get_or t (i + 1) 0) ≡ true) where
-    long_two : leading_ones first ≡ 2 → i + 1 < length t → Char (first % 32 * 64 + get_or t (i + 1) 0 % 64) 2 ≡ sequence_of (sequence (drop i t))
-    unfolding fits_row append_bits
-    long_two count there = rw (opened 1 count, cells 1 there, second)
+    pub long_second : false ≡ within (to (second_low b) (second_high b)) c → None ≡ sequence (b ∷ bs)
+    long_second e = rw (tested, ← e)
 
-    long_third : (k : ℕ) → leading_ones first ≡ suc (suc (suc k)) → i + 2 < length t → within continuing (get_or t (i + 2) 0) ≡ false → Bad ≡ sequence_of (sequence (drop i t))
-    unfolding fits_row
-    long_third k count there e = rw (opened (suc (suc k)) count, cells 1 (omega arith), cells 2 there, second, ne_eqb (suc (suc (suc k))) 2 (λ z. let y : suc (suc (suc k)) ≡ 2 = z in omega arith), e)
+    pub long_others : true ≡ within (to (second_low b) (second_high b)) c → false ≡ list_all (within continuing) ds → None ≡ sequence (b ∷ bs)
+    long_others e f = rw (tested, ← e, ← f)
 
-    module _ (third : within continuing (get_or t (i + 2) 0) ≡ true) where
-      long_three : leading_ones first ≡ 3 → i + 2 < length t → Char (first % 16 * 4096 + get_or t (i + 1) 0 % 64 * 64 + get_or t (i + 2) 0 % 64) 3 ≡ sequence_of (sequence (drop i t))
-      unfolding fits_row append_bits
-      long_three count there =
-          let sum : first % 16 * 4096 + get_or t (i + 1) 0 % 64 * 64 + get_or t (i + 2) 0 % 64 ≡ (first % 16 * 64 + get_or t (i + 1) 0 % 64) * 64 + get_or t (i + 2) 0 % 64 = omega arith in
-          rw (opened 2 count, cells 1 (omega arith), cells 2 there, second, third, sum)
+    pub long_fine : {v : ℕ} → true ≡ within (to (second_low b) (second_high b)) c → true ≡ list_all (within continuing) ds → v ≡ append_bits (b % (128 / 2 ^ ones)) t → Some (v, ones) ≡ sequence (b ∷ bs)
+    long_fine e f g = let n = few in rw (tested, ← e, ← f, g, (shift_lem ones (omega arith)).is)
 
-      module _ (count : leading_ones first ≡ 4) (there : i + 3 < length t) where
-        long_fourth : within continuing (get_or t (i + 3) 0) ≡ false → Bad ≡ sequence_of (sequence (drop i t))
-        unfolding fits_row
-        long_fourth e = rw (opened 3 count, cells 1 (omega arith), cells 2 (omega arith), cells 3 there, second, third, e)
+-- The bits of i bytes of t stand behind those that the reading began with.
+pub record Bits (t : List ℕ) (v i w : ℕ) : Type 0 where
+  pub rest : append_bits w (drop i t) ≡ append_bits v t
+  pub none : i ≤ 0 → w < 128
+  pub one : i ≤ 1 → w < 8192
+  pub two : i ≤ 2 → w < 524_288
 
-        long_four : within continuing (get_or t (i + 3) 0) ≡ true
-            → Char (first % 8 * 262_144 + get_or t (i + 1) 0 % 64 * 4096 + get_or t (i + 2) 0 % 64 * 64 + get_or t (i + 3) 0 % 64) 4 ≡ sequence_of (sequence (drop i t))
-        unfolding fits_row append_bits
-        long_four e =
-            let sum : first % 8 * 262_144 + get_or t (i + 1) 0 % 64 * 4096 + get_or t (i + 2) 0 % 64 * 64 + get_or t (i + 3) 0 % 64
-            ≡ ((first % 8 * 64 + get_or t (i + 1) 0 % 64) * 64 + get_or t (i + 2) 0 % 64) * 64 + get_or t (i + 3) 0 % 64 = omega arith in
-            rw (opened 3 count, cells 1 (omega arith), cells 2 (omega arith), cells 3 there, second, third, e, sum)
+module _ (t : List ℕ) (b ones : ℕ) {v : ℕ} (cut : v ≡ b % (128 / 2 ^ ones)) (few : ones ≤ 4) where
+  pub bits_none : Bits t v 0 v
+  bits_none =
+      let s = shift_lem ones (omega arith) in
+      let l : v < 128 = omega (arith, cut, s.over, s.under) in
+      record { rest = refl; none = λ _. l; one = λ _. omega arith; two = λ _. omega arith }
 
-  -- The same, with what code knows: the count of ones, the bounds and the tests by their answers.
-  module _ {ones : ℕ} (count : ones ≡ leading_ones first) where
-    pub enough : (2 ≤ ones) × (ones ≤ 4)
-    enough = let n = few_ones first byte low high in omega arith
+module _ {t : List ℕ} {v i w : ℕ} (k : Bits t v i w) where
+  pub bits_more : i < length t → i < 3 → Bits t v (i + 1) (w * 64 + get_or t i 0 % 64)
+  unfolding append_bits
+  bits_more h l = record {
+    rest = rw (add-one) (rw (drop-cons t i 0 h) at k.rest);
+    none = λ m. absurd (omega arith);
+    one = λ m. omega (arith, k.none (omega arith));
+    two = λ m. omega (arith, k.one (omega arith));
+  }
 
-    pub at_short : length t - i < ones → Bad ≡ sequence_of (sequence (drop i t))
-    at_short h = let n = enough in long_short (ones - 1) (sym count ∙ omega arith) (omega arith)
+  pub bits_all : length t ≤ i → w ≡ append_bits v t
+  unfolding append_bits
+  bits_all h = rw (drop_of_length-le t h) at k.rest
 
-    module _ (room : ones ≤ length t - i) {lo hi : ℕ} {w : Bool} (lo-is : lo ≡ second_low first) (hi-is : hi ≡ second_high first) (second : w ≡ within (to lo hi) (get_or t (i + 1) 0)) where
-      second_is : {x : Bool} → w ≡ x → within (to (second_low first) (second_high first)) (get_or t (i + 1) 0) ≡ x
-      second_is e = rw (← lo-is, ← hi-is) (sym second ∙ e)
+-- Any first byte, or none.
+pub at_end : (t : List ℕ) → length t < 1 → None ≡ sequence t
+unfolding sequence
+at_end [] h = refl
+at_end (b ∷ bs) h = absurd (omega arith)
 
-      pub at_second : w ≡ false → Bad ≡ sequence_of (sequence (drop i t))
-      at_second e = let n = enough in long_second (ones - 2) (sym count ∙ omega arith) (omega arith) (second_is e)
+module _ (t : List ℕ) (here : 0 < length t) where
+  pub at_ascii : get_or t 0 0 < 0x80 → Some (get_or t 0 0, 1) ≡ sequence t
+  at_ascii h = rw (drop-cons t 0 0 here) (sym (sequence_ascii (get_or t 0 0) (drop 1 t) h))
 
-      module _ (fine : w ≡ true) where
-        pub at_two : ones ≡ 2 → Char (first % 32 * 64 + get_or t (i + 1) 0 % 64) 2 ≡ sequence_of (sequence (drop i t))
-        at_two e = long_two (second_is fine) (sym count ∙ e) (omega arith)
+  module _ (byte : get_or t 0 0 < 256) where
+    pub at_below : 0x80 ≤ get_or t 0 0 → get_or t 0 0 < 0xC2 → None ≡ sequence t
+    at_below l h = rw (drop-cons t 0 0 here) (sym (sequence_below (get_or t 0 0) (drop 1 t) byte l h))
 
-        module _ (over-two : ones ≡ 2 → ⊥) where
-          three_up : 3 ≤ ones
-          three_up = let n = enough in by_order 2 ones (λ l. l) (λ l. absurd (over-two (omega arith)))
-
-          pub three_cells : i + 2 < length t
-          three_cells = let n = three_up in omega arith
-
-          module _ {x : Bool} (third : x ≡ within continuing (get_or t (i + 2) 0)) where
-            pub at_third : x ≡ false → Bad ≡ sequence_of (sequence (drop i t))
-            at_third e = let n = three_up in long_third (second_is fine) (ones - 3) (sym count ∙ omega arith) (omega arith) (sym third ∙ e)
-
-            module _ (fine-third : x ≡ true) where
-              pub at_three : ones ≡ 3 → Char (first % 16 * 4096 + get_or t (i + 1) 0 % 64 * 64 + get_or t (i + 2) 0 % 64) 3 ≡ sequence_of (sequence (drop i t))
-              at_three e = long_three (second_is fine) (sym third ∙ fine-third) (sym count ∙ e) (omega arith)
-
-              module _ (over-three : ones ≡ 3 → ⊥) where
-                four : ones ≡ 4
-                four = let n = enough in let m = three_up in by_order 3 ones (λ l. omega arith) (λ l. absurd (over-three (omega arith)))
-
-                pub four_cells : i + 3 < length t
-                four_cells = let n = four in omega arith
-
-                module _ {y : Bool} (fourth : y ≡ within continuing (get_or t (i + 3) 0)) where
-                  pub at_fourth : y ≡ false → Bad ≡ sequence_of (sequence (drop i t))
-                  at_fourth e = long_fourth (second_is fine) (sym third ∙ fine-third) (sym count ∙ four) four_cells (sym fourth ∙ e)
-
-                  pub at_four : y ≡ true → Char (first % 8 * 262_144 + get_or t (i + 1) 0 % 64 * 4096 + get_or t (i + 2) 0 % 64 * 64 + get_or t (i + 3) 0 % 64) 4 ≡ sequence_of (sequence (drop i t))
-                  at_four e = long_four (second_is fine) (sym third ∙ fine-third) (sym count ∙ four) four_cells (sym fourth ∙ e)
-
--- The sequence at i, for any first byte.
-module _ (t : List ℕ) (i : ℕ) (here : i < length t) where
-  abbrev byte_at : ℕ
-  byte_at = get_or t i 0
-
-  pub at_ascii : byte_at < 0x80 → Char byte_at 1 ≡ sequence_of (sequence (drop i t))
-  at_ascii h = rw (drop-cons t i 0 here, sequence_ascii byte_at (drop (suc i) t) h)
-
-  module _ (byte : byte_at < 256) where
-    pub at_below : 0x80 ≤ byte_at → byte_at < 0xC2 → Bad ≡ sequence_of (sequence (drop i t))
-    at_below l h = rw (drop-cons t i 0 here, sequence_below byte_at (drop (suc i) t) byte l h)
-
-    pub at_above : 0xF4 < byte_at → Bad ≡ sequence_of (sequence (drop i t))
-    at_above h = rw (drop-cons t i 0 here, sequence_above byte_at (drop (suc i) t) byte h)
-
--- What a sequence that was read says of the definition.
-pub some_of : (c k : ℕ) (o : Option (ℕ × ℕ)) → Char c k ≡ sequence_of o → o ≡ Some (c, k)
-some_of c k None e = let z : ◌≡◌ {A = ℕ} 0 1 = cc in absurd (zero_one z)
-  where
-    zero_one : ◌≡◌ {A = ℕ} 0 1 → ⊥
-    zero_one z = omega arith
-some_of c k (Some s) e =
-    let a : c ≡ s.0 = cc in
-    let b : k ≡ s.1 = cc in
-    rw (a, b)
-
-pub none_of : (o : Option (ℕ × ℕ)) → Bad ≡ sequence_of o → o ≡ None
-none_of None e = refl
-none_of (Some s) e = cc
-
--- A sequence that was read lies in the bytes.
-module _ (t : List ℕ) (i : ℕ) (here : i < length t) (byte : get_or t i 0 < 256) (c k : ℕ) (e : Char c k ≡ sequence_of (sequence (drop i t))) where
-  never : Bad ≡ sequence_of (sequence (drop i t)) → ⊥
-  never b = let z : ◌≡◌ {A = ℕ} 0 1 = cc in omega arith
-
-  lead_length : (m : ℕ) (x : Bool) (v : ℕ) → sequence (drop i t) ≡ cond x (Some (v, m)) None → k ≡ m
-  lead_length m true v q = let s : ◌≡◌ {A = Option (ℕ × ℕ)} (Some (c, k)) (Some (v, m)) = sym (some_of c k (sequence (drop i t)) e) ∙ q in cc
-  lead_length m false v q = absurd (never (ap sequence_of (sym q)))
-
-  long_length : 0xC2 ≤ get_or t i 0 → get_or t i 0 ≤ 0xF4 → (m : ℕ) → leading_ones (get_or t i 0) ≡ suc m → k ≡ suc m
-  long_length g h m f =
-      lead_length (suc m) (fits_row (behind (get_or t i 0) (suc m)) (take m (drop (i + 1) t))) (append_bits (get_or t i 0 % 2 ^ (7 - suc m)) (take m (drop (i + 1) t)))
-      (opened t i here byte g h m f)
-
-  pub read_within : (1 ≤ k) × (i + k ≤ length t)
-  read_within = by_order (get_or t i 0) 0x80
-      (λ l. let q : Char (get_or t i 0) 1 ≡ Char c k = at_ascii t i here l ∙ sym e in let n : 1 ≡ k = cc in omega arith)
-      (λ l. by_order (get_or t i 0) 0xC2 (λ g. absurd (never (at_below t i here byte l g)))
-      (λ g. by_order 0xF4 (get_or t i 0) (λ h. absurd (never (at_above t i here byte h)))
-      (λ h. let n = few_ones (get_or t i 0) byte g h in by_order (length t - i) (leading_ones (get_or t i 0)) (λ s. absurd (never (at_short t i here byte g h refl s)))
-      (λ s. let f = long_length g h (leading_ones (get_or t i 0) - 1) (omega arith) in omega arith))))
+    pub at_above : 0xF4 < get_or t 0 0 → None ≡ sequence t
+    at_above h = rw (drop-cons t 0 0 here) (sym (sequence_above (get_or t 0 0) (drop 1 t) byte h))

@@ -1,18 +1,10 @@
 -- What the code of opening answers, in the terms of the definitions.
-use Rattle.std.specs.Prelude.{cond, List, ℕ, ◌≤◌, eqb, length, Option, None, Some}
+use Rattle.std.specs.Prelude.{cond, List, ℕ, ◌≤◌, eqb, length, Result, Ok, Err}
 use Rattle.reading.specs.Slices.{front}
+use Rattle.text.specs.Refusals.{number_of}
 use Rattle.text.specs.Utf8.{Decoded, chars, bad_at, Opened, opened, refused}
-use Rattle.text.specs.declared.utf8.Opening.{Opening}
-use Rattle.text.specs.declared.utf8.Opening.TheVariants.{Opened as OpenedText, Refused}
-use Rattle.text.specs.declared.utf8.Sequence.{Sequence}
-use Rattle.text.specs.declared.utf8.Sequence.TheVariants.{Char, Bad}
-use Rattle.text.specs.declared.utf8.Count.{Count}
-use Rattle.text.specs.declared.utf8.Count.TheVariants.{Chars, BadAt}
-
--- A sequence read, or none.
-abbrev pub sequence_of : Option (ℕ × ℕ) → Sequence
-sequence_of None = Bad
-sequence_of (Some s) = Char s.0 s.1
+use Rattle.text.specs.declared.utf8.Text.{Text}
+use Rattle.text.specs.declared.utf8.Refused.{Refused}
 
 -- The bounds of the second byte behind a first byte of C2 to F4.
 abbrev pub second_low : ℕ → ℕ
@@ -22,9 +14,9 @@ abbrev pub second_high : ℕ → ℕ
 second_high b = cond (eqb b 0xED) 0x9F (cond (eqb b 0xF4) 0x8F 0xBF)
 
 -- The number of characters, or the place of the first bad sequence.
-abbrev pub count_of : Decoded → Count
-count_of (chars cs) = Chars (length cs)
-count_of (bad_at p) = BadAt p
+abbrev pub count_of : Decoded → Result ℕ ℕ
+count_of (chars cs) = Ok (length cs)
+count_of (bad_at p) = Err p
 
 -- The bytes are well-formed, and a slice of n cells has room for their characters.
 abbrev pub HasRoom : Decoded → ℕ → Type 0
@@ -35,7 +27,12 @@ abbrev pub written_of : Decoded → List ℕ → List ℕ
 written_of (chars cs) out = front cs out
 written_of (bad_at p) out = out
 
--- 01's answer: the text's length, or the refusal with its place.
-abbrev pub opening_of : Opened → Opening
-opening_of (opened cs) = OpenedText (record { chars = length cs })
-opening_of (refused n p) = Refused n p
+-- What code answers: a text's length, or the number of a refusal and its place.
+abbrev pub answered : Result Text Refused → Result ℕ (ℕ × ℕ)
+answered (Ok t) = Ok t.chars
+answered (Err r) = Err (number_of r.refusal, r.place)
+
+-- 01's answer in the same terms.
+abbrev pub opening_of : Opened → Result ℕ (ℕ × ℕ)
+opening_of (opened cs) = Ok (length cs)
+opening_of (refused n p) = Err (n, p)

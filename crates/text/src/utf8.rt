@@ -1,14 +1,15 @@
 // Bytes to characters, one cell each.
-ghost use Rattle.std.specs.Prelude.{◌≡◌, [], ◌∷◌, ◌<◌, ◌≤◌, ◌-◌, length, drop, get_or};
+ghost use Rattle.std.specs.Prelude.{◌≡◌, [], ◌∷◌, ◌+◌, ◌≤◌, length, MatchOption, ⊤};
+ghost use Rattle.std.specs.List.{list_all};
 ghost use Rattle.text.specs.Limits.{max_chars, max_bytes};
 ghost use Rattle.text.specs.Ranges.{to, within};
 ghost use Rattle.text.specs.Utf8 as spec;
-ghost use Rattle.text.specs.Opening.{sequence_of, second_low, second_high, count_of, HasRoom, written_of, opening_of};
+ghost use Rattle.text.specs.Opening.{second_low, second_high, count_of, HasRoom, written_of, answered, opening_of};
 
 use crate::refusal::Refusal;
 
 // An opened text.
-#[derive(Clone, Copy)]
+#[derive(Clone, Copy, Debug, PartialEq, Eq)]
 pub struct Text {
     pub chars: usize,
 }
@@ -27,143 +28,103 @@ pub fn numbers() -> [usize; 2]
     [Text::MAX_CHARS, Text::MAX_BYTES]
 }
 
-// What opening answers: the text, or the number and the place of a refusal.
-#[derive(Clone, Copy)]
-pub enum Opening {
-    Opened(Text),
-    Refused(u32, usize),
+// Why bytes are no text, and the place of a bad sequence.
+#[derive(Clone, Copy, Debug, PartialEq, Eq)]
+pub struct Refused {
+    pub refusal: Refusal,
+    pub place: usize,
 }
 
-// A character and the length of its sequence, or a sequence that is not well-formed.
-#[derive(Clone, Copy)]
-pub enum Sequence {
-    Char(u32, usize),
-    Bad,
-}
-
-// How many characters there are, or where the first bad sequence begins.
-#[derive(Clone, Copy)]
-pub enum Count {
-    Chars(usize),
-    BadAt(usize),
+impl Refusal {
+    fn at(self, place: usize) -> Refused
+        ensures { result ≡ record { refusal = self; place = place } }
+    {
+        Refused {
+            refusal: self,
+            place,
+        }
+    }
 }
 
 // How many ones a byte begins with.
-fn leading_ones(b: u8) -> u32
-    ensures { result ≡ spec.leading_ones b }
+fn leading_ones(b: u8) -> usize
+    ensures count { result ≡ spec.leading_ones b }
+    ensures of_lead { (0xC2 ≤ b) × (b ≤ 0xF4) → (2 ≤ result) × (result ≤ 4) }
 {
-    u8::leading_zeros(!b)
+    u8::leading_zeros(!b) as usize
 }
 
-fn is_between(c: u8, low: u8, high: u8) -> bool
-    ensures { result ≡ within (to low high) c }
+fn is_continuing(c: u8) -> bool
+    ensures { result ≡ within spec.continuing c }
 {
-    if c < low {
-        return false;
-    }
-    c <= high
+    (0x80..=0xBF).contains(&c)
 }
 
-// The lowest second byte behind the first byte b: no overlong form.
-fn second_low(b: u8) -> u8
-    ensures { result ≡ second_low b }
+fn all_continue(bytes: &[u8]) -> bool
+    ensures { result ≡ list_all (within spec.continuing) bytes.now }
 {
-    if b == 0xE0 {
-        return 0xA0;
-    }
-    if b == 0xF0 {
-        return 0x90;
-    }
-    0x80
+    bytes.iter().all(|c| is_continuing(*c))
 }
 
-// The highest: no surrogate, nothing above U+10FFFF.
-fn second_high(b: u8) -> u8
-    ensures { result ≡ second_high b }
+// Whether c may stand behind the first byte b of C2 to F4: no overlong form, no surrogate, nothing above U+10FFFF.
+fn is_second(b: u8, c: u8) -> bool
+    ensures { result ≡ within (to (second_low b) (second_high b)) c }
 {
-    if b == 0xED {
-        return 0x9F;
+    match b {
+        0xE0 => (0xA0..=0xBF).contains(&c),
+        0xED => (0x80..=0x9F).contains(&c),
+        0xF0 => (0x90..=0xBF).contains(&c),
+        0xF4 => (0x80..=0x8F).contains(&c),
+        _ => is_continuing(c),
     }
-    if b == 0xF4 {
-        return 0x8F;
-    }
-    0xBF
 }
 
-// The sequence at i, whose first byte is C2 to F4.
-fn read_long(bytes: &[u8], i: usize) -> Sequence
-    requires { (i < length bytes.now) × (0xC2 ≤ get_or bytes.now i 0) × (get_or bytes.now i 0 ≤ 0xF4) }
-    ensures { result ≡ sequence_of (spec.sequence (drop i bytes.now)) }
+// The sequence that begins with a byte b of C2 to F4.
+fn read_long(b: u8, rest: &[u8]) -> Option<(u32, usize)>
+    requires { (0xC2 ≤ b) × (b ≤ 0xF4) }
+    ensures sequence { result ≡ spec.sequence (b ∷ rest.now) }
+    ensures within { MatchOption result ⊤ (λ s. (1 ≤ s.1) × (s.1 ≤ length rest.now + 1)) }
 {
-    let b = bytes[i];
     let k = leading_ones(b);
-    if bytes.len() - i < k as usize {
-        return Sequence::Bad;
+    let tail = rest.get(..k - 1)?;
+    let (second, others) = tail.split_first()?;
+    if !is_second(b, *second) || !all_continue(others) {
+        return None;
     }
-    let c = bytes[i + 1];
-    if !is_between(c, second_low(b), second_high(b)) {
-        return Sequence::Bad;
+    let mut c = u32::from(b % (0x80 >> k));
+    for d in tail {
+        c = c * 64 + u32::from(d % 64);
     }
-    if k == 2 {
-        return Sequence::Char((b % 32) as u32 * 64 + (c % 64) as u32, 2);
-    }
-    let d = bytes[i + 2];
-    if !is_between(d, 0x80, 0xBF) {
-        return Sequence::Bad;
-    }
-    if k == 3 {
-        return Sequence::Char(
-            (b % 16) as u32 * 4096 + (c % 64) as u32 * 64 + (d % 64) as u32,
-            3,
-        );
-    }
-    let e = bytes[i + 3];
-    if !is_between(e, 0x80, 0xBF) {
-        return Sequence::Bad;
-    }
-    Sequence::Char(
-        (b % 8) as u32 * 262_144 + (c % 64) as u32 * 4096 + (d % 64) as u32 * 64 + (e % 64) as u32,
-        4,
-    )
+    Some((c, k))
 }
 
-// The sequence at i.
-fn read_sequence(bytes: &[u8], i: usize) -> Sequence
-    requires { i < length bytes.now }
-    ensures { result ≡ sequence_of (spec.sequence (drop i bytes.now)) }
+// The character that the bytes begin with, and the length of its sequence.
+fn read_sequence(bytes: &[u8]) -> Option<(u32, usize)>
+    ensures sequence { result ≡ spec.sequence bytes.now }
+    ensures within { MatchOption result ⊤ (λ s. (1 ≤ s.1) × (s.1 ≤ length bytes.now)) }
 {
-    let b = bytes[i];
-    if b < 0x80 {
-        return Sequence::Char(b as u32, 1);
+    match bytes {
+        [b @ ..0x80, ..] => Some((u32::from(*b), 1)),
+        [b @ 0xC2..=0xF4, rest @ ..] => read_long(*b, rest),
+        _ => None,
     }
-    if b < 0xC2 {
-        return Sequence::Bad;
-    }
-    if 0xF4 < b {
-        return Sequence::Bad;
-    }
-    read_long(bytes, i)
 }
 
 // How many characters the bytes are, or where the first bad sequence begins.
-fn count_chars(bytes: &[u8]) -> Count
+fn count_chars(bytes: &[u8]) -> Result<usize, usize>
     ensures { result ≡ count_of (spec.decoded bytes.now) }
 {
-    let mut i: usize = 0;
-    let mut n: usize = 0;
-    while i < bytes.len() {
-        let s = read_sequence(bytes, i);
-        match s {
-            Sequence::Char(_, k) => {
-                i += k;
-                n += 1;
-            }
-            Sequence::Bad => {
-                return Count::BadAt(i);
-            }
-        }
+    let mut rest = bytes;
+    let mut n = 0;
+    while let Some((_, k)) = read_sequence(rest) {
+        rest = &rest[k..];
+        n += 1;
     }
-    Count::Chars(n)
+    if rest.is_empty() {
+        Ok(n)
+    } else {
+        Err(bytes.len() - rest.len())
+    }
 }
 
 // Writes the characters to the front of the output.
@@ -171,44 +132,32 @@ fn write_chars(bytes: &[u8], out: &mut [u32])
     requires { HasRoom (spec.decoded bytes.now) (length out.old) }
     ensures { out.new ≡ written_of (spec.decoded bytes.now) out.old }
 {
-    let mut i: usize = 0;
-    let mut n: usize = 0;
-    while i < bytes.len() {
-        let s = read_sequence(bytes, i);
-        match s {
-            Sequence::Char(c, k) => {
-                out[n] = c;
-                i += k;
-                n += 1;
-            }
-            Sequence::Bad => {
-                return;
-            }
-        }
+    let mut rest = bytes;
+    for cell in out.iter_mut() {
+        let Some((c, k)) = read_sequence(rest) else {
+            return;
+        };
+        *cell = c;
+        rest = &rest[k..];
     }
 }
 
 // Opens bytes as a text: 1 for too many bytes, 2 with the place of the first bad sequence, 1 for too many characters, 9 for a short output.
 // Ruled out, among others: an overlong form taken for a character; each character written at its byte's place.
-pub fn open_bytes(bytes: &[u8], out: &mut [u32]) -> Opening
-    ensures { (result ≡ opening_of (spec.open_bytes bytes.now (length out.old)))
-        × (out.new ≡ spec.opened_output (spec.open_bytes bytes.now (length out.old)) out.old) }
+pub fn open_bytes(bytes: &[u8], out: &mut [u32]) -> Result<Text, Refused>
+    ensures answer { answered result ≡ opening_of (spec.open_bytes bytes.now (length out.old)) }
+    ensures output { out.new ≡ spec.opened_output (spec.open_bytes bytes.now (length out.old)) out.old }
 {
     if Text::MAX_BYTES < bytes.len() {
-        return Opening::Refused(Refusal::TOO_LONG, 0);
+        return Err(Refusal::TooLong.at(0));
     }
-    let counted = count_chars(bytes);
-    match counted {
-        Count::BadAt(place) => Opening::Refused(Refusal::NOT_UTF8, place),
-        Count::Chars(n) => {
-            if Text::MAX_CHARS < n {
-                return Opening::Refused(Refusal::TOO_LONG, 0);
-            }
-            if out.len() < n {
-                return Opening::Refused(Refusal::SHORT_SLICE, 0);
-            }
-            write_chars(bytes, out);
-            Opening::Opened(Text { chars: n })
-        }
+    let chars = count_chars(bytes).map_err(|place| Refusal::NotUtf8.at(place))?;
+    if Text::MAX_CHARS < chars {
+        return Err(Refusal::TooLong.at(0));
     }
+    if out.len() < chars {
+        return Err(Refusal::ShortSlice.at(0));
+    }
+    write_chars(bytes, out);
+    Ok(Text { chars })
 }

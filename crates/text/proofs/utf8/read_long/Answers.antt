@@ -1,34 +1,41 @@
--- Laws follow the code look by look; each answer hands over the tests that led there.
-use native.Mathlib.Omega.{arith}
-use Rattle.text.proofs.Utf8Laws.{enough, three_cells, four_cells, at_short, at_second, at_two, at_third, at_three, at_fourth, at_four}
+-- The count of ones tells how many bytes there are to be, and each is tested; then their bits are put behind one another.
+use Rattle.std.proofs.Common.{◌∙◌, arith, sym}
+use Rattle.text.proofs.Utf8Laws.{long_short, long_second, long_others, long_fine, shift_lem, bits_none, bits_more, bits_all}
 use Rattle.text.proofs.utf8.read_long.Goals as goal
+use Rattle.text.proofs.utf8.read_long.Goals.{then-not-is_second-via-then-not-is_second, then-not-is_second-via-else-not-is_second+then-not-all_continue}
 
-pub returns-then-bytes-i : goal.returns-then-bytes-i
-returns-then-bytes-i c = let a = c.args in at_short a.bytes.now a.i (omega arith) (omega arith) c.requires.1 c.requires.2 c.leading_ones-k.ensures (omega arith)
+pub returns-in_err-tail-clause-sequence : goal.returns-in_err-tail-clause-sequence
+returns-in_err-tail-clause-sequence c = c.from_residual.ensures ∙ long_short c.args.b c.args.rest.now (omega arith) c.requires c.leading_ones-k.ensures.count (let h = c.in_err-tail.ensures.lookup.0 in omega (arith, h))
 
-pub bounds-bytes-i-2 : goal.bounds-bytes-i-2
-bounds-bytes-i-2 c = let a = c.args in let n = enough a.bytes.now a.i (omega arith) (omega arith) c.requires.1 c.requires.2 c.leading_ones-k.ensures in omega arith
+pub returns-in_err-second-clause-sequence : goal.returns-in_err-second-clause-sequence
+returns-in_err-second-clause-sequence c =
+    let h = c.in_err-second.ensures.cases in
+    let l = c.in_ok-tail.ensures.lookup.0 in
+    absurd (omega (arith, h, l))
 
-pub returns-then-not-is_between : goal.returns-then-not-is_between
-returns-then-not-is_between c = let a = c.args in at_second a.bytes.now a.i (omega arith) (omega arith) c.requires.1 c.requires.2 c.leading_ones-k.ensures (omega arith) c.second_low.ensures c.second_high.ensures c.is_between.ensures c.if-not-is_between.true
+pub returns-then-not-is_second-clause-sequence : goal.returns-then-not-is_second-clause-sequence
+returns-then-not-is_second-clause-sequence c =
+    let l = c.in_ok-tail.ensures.lookup.0 in
+    let i = c.in_ok-second.ensures.cases in
+    let k = c.leading_ones-k.ensures.count in
+    elim c.then-not-is_second.branch [
+      | then-not-is_second-via-then-not-is_second w ↦ long_second c.args.b c.args.rest.now (omega arith) c.requires k l.2 i.0 (omega (arith, l.3)) (sym w.if-not-is_second.true ∙ c.is_second.ensures)
+      | then-not-is_second-via-else-not-is_second+then-not-all_continue w ↦ long_others c.args.b c.args.rest.now (omega arith) c.requires k l.2 i.0 (omega (arith, l.3)) (sym w.if-not-is_second.false ∙ c.is_second.ensures) (sym w.if-not-all_continue.true ∙ w.all_continue.ensures)
+    ]
 
-pub returns-then-k-eq2 : goal.returns-then-k-eq2
-returns-then-k-eq2 c = let a = c.args in at_two a.bytes.now a.i (omega arith) (omega arith) c.requires.1 c.requires.2 c.leading_ones-k.ensures (omega arith) c.second_low.ensures c.second_high.ensures c.is_between.ensures c.if-not-is_between.false c.if-k-eq2.true
+pub nonzero_rem-b : goal.nonzero_rem-b
+nonzero_rem-b c = let s = shift_lem c.leading_ones-k.result (omega arith) in omega (arith, s.over)
 
-pub bounds-bytes-i-3 : goal.bounds-bytes-i-3
-bounds-bytes-i-3 c = let a = c.args in three_cells a.bytes.now a.i (omega arith) (omega arith) c.requires.1 c.requires.2 c.leading_ones-k.ensures (omega arith) c.second_low.ensures c.second_high.ensures c.is_between.ensures c.if-not-is_between.false c.if-k-eq2.false
+pub loop-d-init : goal.loop-d-init
+loop-d-init c = bits_none _ c.args.b c.leading_ones-k.result c.from-c.ensures (omega arith)
 
-pub returns-then-not-is_between-2 : goal.returns-then-not-is_between-2
-returns-then-not-is_between-2 c = let a = c.args in at_third a.bytes.now a.i (omega arith) (omega arith) c.requires.1 c.requires.2 c.leading_ones-k.ensures (omega arith) c.second_low.ensures c.second_high.ensures c.is_between.ensures c.if-not-is_between.false c.if-k-eq2.false c.is_between-2.ensures c.if-not-is_between-2.true
+pub loop-d-preserved : goal.loop-d-preserved
+loop-d-preserved c = rw c.from.ensures (bits_more c.loop-d.invariant (omega arith) (omega (arith, c.in_ok-tail.ensures.lookup.0.3)))
 
-pub returns-then-k-eq3 : goal.returns-then-k-eq3
-returns-then-k-eq3 c = let a = c.args in at_three a.bytes.now a.i (omega arith) (omega arith) c.requires.1 c.requires.2 c.leading_ones-k.ensures (omega arith) c.second_low.ensures c.second_high.ensures c.is_between.ensures c.if-not-is_between.false c.if-k-eq2.false c.is_between-2.ensures c.if-not-is_between-2.false c.if-k-eq3.true
-
-pub bounds-bytes-i-4 : goal.bounds-bytes-i-4
-bounds-bytes-i-4 c = let a = c.args in four_cells a.bytes.now a.i (omega arith) (omega arith) c.requires.1 c.requires.2 c.leading_ones-k.ensures (omega arith) c.second_low.ensures c.second_high.ensures c.is_between.ensures c.if-not-is_between.false c.if-k-eq2.false c.is_between-2.ensures c.if-not-is_between-2.false c.if-k-eq3.false
-
-pub returns-then-not-is_between-3 : goal.returns-then-not-is_between-3
-returns-then-not-is_between-3 c = let a = c.args in at_fourth a.bytes.now a.i (omega arith) (omega arith) c.requires.1 c.requires.2 c.leading_ones-k.ensures (omega arith) c.second_low.ensures c.second_high.ensures c.is_between.ensures c.if-not-is_between.false c.if-k-eq2.false c.is_between-2.ensures c.if-not-is_between-2.false c.if-k-eq3.false c.is_between-3.ensures c.if-not-is_between-3.true
-
-pub returns : goal.returns
-returns c = let a = c.args in at_four a.bytes.now a.i (omega arith) (omega arith) c.requires.1 c.requires.2 c.leading_ones-k.ensures (omega arith) c.second_low.ensures c.second_high.ensures c.is_between.ensures c.if-not-is_between.false c.if-k-eq2.false c.is_between-2.ensures c.if-not-is_between-2.false c.if-k-eq3.false c.is_between-3.ensures c.if-not-is_between-3.false
+pub returns-clause-sequence : goal.returns-clause-sequence
+returns-clause-sequence c =
+    let l = c.in_ok-tail.ensures.lookup.0 in
+    let i = c.in_ok-second.ensures.cases in
+    let k = c.leading_ones-k.ensures.count in
+    long_fine c.args.b c.args.rest.now (omega arith) c.requires k l.2 i.0 (omega (arith, l.3)) (sym c.if-not-is_second.false ∙ c.is_second.ensures) (sym c.if-not-all_continue.false ∙ c.all_continue.ensures)
+    (rw c.from-c.ensures at (bits_all c.loop-d.invariant (omega arith)))
