@@ -32,7 +32,7 @@ pub fn checked<'a>(n: usize, scope: Lent<'a>, room: &Room<'_>) -> Result<Sound<'
     if Text::MAX_CHARS < n {
         return Err(Refusal::TooLong);
     }
-    let sound = scope.checked().ok_or(Refusal::BrokenScope)?;
+    let sound = scope.checked()?;
     if room.rows.len() < n + 2 || room.store.len() < n || room.scratch.len() < 2 * n {
         return Err(Refusal::ShortSlice);
     }
