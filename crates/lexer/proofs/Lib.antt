@@ -14,3 +14,4 @@ pub mod WalkLaws
 pub mod BoundLaws
 pub mod WindowLaws
 pub mod AnsweredLaws
+pub mod LookLaws

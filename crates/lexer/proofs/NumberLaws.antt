@@ -1,9 +1,10 @@
 -- Each way through a number, followed look by look with its exact reach.
-use mathlib.Core.Path.{◌≡◌, sym, ap, ◌∙◌}
+use mathlib.Core.Path.{◌≡◌, refl, sym, ap, ◌∙◌}
 use mathlib.Core.Bool.{Bool, true, false, ◌||◌}
 use mathlib.Core.List.{List, [], ◌++◌}
 use Prim.Native.Nat.{ℕ, ◌+◌, ◌-◌, ◌≤◌, ◌<◌}
 use native.Mathlib.Omega.{arith}
+use mir.Val.{bool_byte}
 use lib.Dec.{eqb}
 use lib.ListN.{length, drop, set, length-drop, length-append}
 use lib.Seq.{paste}
@@ -19,7 +20,7 @@ use Rattle.reading.proofs.Going.{begins, asks, takes, finds, sees_from, sees_gat
 use Rattle.text.specs.Limits.{max_chars}
 use Rattle.text.specs.Classes.{is_digit}
 use Rattle.lexer.specs.Number.{or_zero, read_sign, read_exponent, read_number}
-use Rattle.lexer.specs.Numerals.{Signed, Exponented, Numbered, digits_of}
+use Rattle.lexer.specs.Numerals.{Signed, Exponented, Numbered, digits_of, places}
 use Rattle.lexer.specs.Token.{fuel}
 use Rattle.lexer.specs.declared.number.Number.{Number}
 
@@ -33,13 +34,18 @@ module _ (t : List ℕ) (i : ℕ) {a : Bool} (p : a ≡ is 0x2B (cell_at t i)) w
       record { sees = finds (rw (sym p ∙ e) at (asks (begins t 0 (read_sign i)) (i + 1) (omega arith))); from = omega arith; within = omega arith }
 
   module _ (e : a ≡ false) {b : Bool} (q : b ≡ is 0x2D (cell_at t i)) where
-    pub sign_minus : b ≡ true → Signed t i true (i + 1)
+    sign_minus : b ≡ true → Signed t i true (i + 1)
     sign_minus f =
         let h = cell_there (eqb 0x2D) t i (sym q ∙ f) in
         record { sees = finds (rw (sym p ∙ e, sym q ∙ f) at (asks (begins t 0 (read_sign i)) (i + 1) (omega arith))); from = omega arith; within = omega arith }
 
-    pub sign_none : b ≡ false → i ≤ length t → Signed t i false i
+    sign_none : b ≡ false → i ≤ length t → Signed t i false i
     sign_none f h = record { sees = finds (rw (sym p ∙ e, sym q ∙ f) at (asks (begins t 0 (read_sign i)) (i + 1) (omega arith))); from = omega arith; within = h }
+
+-- A minus or no sign.
+pub sign_other : (t : List ℕ) (i : ℕ) {a : Bool} → a ≡ is 0x2B (cell_at t i) → a ≡ false → (b : Bool) → b ≡ is 0x2D (cell_at t i) → i ≤ length t → Signed t i b (i + bool_byte b)
+sign_other t i p e true q h = sign_minus t i p e q refl
+sign_other t i p e false q h = let z : i + 0 ≡ i = omega arith in rw z (sign_none t i p e q refl h)
 
 module _ (t : List ℕ) (i : ℕ) (small : length t ≤ max_chars) {a : Bool} (p : a ≡ is 0x65 (cell_at t i) || is 0x45 (cell_at t i)) where
   pub exponent_none : a ≡ false → i ≤ length t → Exponented t i false i i
@@ -63,9 +69,6 @@ module _ (t : List ℕ) (i : ℕ) (small : length t ≤ max_chars) {a : Bool} (p
         on = omega arith;
         within = d.within;
       }
-
-abbrev places : ℕ → ℕ → ℕ → Bool → ℕ → ℕ → ℕ → Number
-places b f a m x e r = record { before = b; from = f; after = a; minus = m; exponent = x; end = e; reach = r }
 
 module _ (t : List ℕ) (i : ℕ) (small : length t ≤ max_chars) {b : ℕ} (d : Passed is_digit t i b) {x : Bool} (p : x ≡ is 0x2E (cell_at t b)) where
   pub number_whole : x ≡ false → {m : Bool} {from end : ℕ} → Exponented t b m from end → Numbered t i (places b b b m from end (end + 1))

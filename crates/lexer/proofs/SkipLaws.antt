@@ -1,6 +1,6 @@
 -- Skipping in code follows the reading with a bound on its reach, which the window will cover.
-use Rattle.std.specs.Prelude.{Option, None, Some}
-use mathlib.Core.Path.{◌≡◌, refl, sym, ◌∙◌}
+use Rattle.std.specs.Prelude.{None, Some}
+use mathlib.Core.Path.{◌≡◌, refl, sym, ◌∙◌, subst}
 use mathlib.Core.Bool.{Bool, true, false, cond, ◌&&◌}
 use mathlib.Core.List.{List}
 use Prim.Native.Nat.{ℕ, suc, ◌+◌, ◌-◌, ◌≤◌, ◌<◌}
@@ -20,7 +20,6 @@ use Rattle.text.specs.Classes.{is_whitespace}
 use Rattle.lexer.specs.Skip.{is_in_line, block_end, blanks, comment, skip_from, skip}
 use Rattle.lexer.specs.Token.{fuel}
 use Rattle.lexer.specs.Answers.{BlockEnds, Commented}
-use Rattle.lexer.specs.declared.skip.Found.TheVariants.{Nothing, At}
 
 -- The whitespace that code has passed is what the reading passes.
 pub sees_blanks : {t : List ℕ} {i j : ℕ} → Passed is_whitespace t i j → length t ≤ max_chars → Sees t (blanks fuel i) j (j + 1)
@@ -87,11 +86,11 @@ module _ (t : List ℕ) (i : ℕ) where
   looked = looks (looks (start t (comment fuel i)) (i + 1) (omega arith) (omega arith)) (i + 2) (omega arith) (omega arith)
 
   module _ (small : length t ≤ max_chars) {a : Bool} (p : a ≡ is 0x2F (cell_at t i)) where
-    pub comment_none : a ≡ false → Commented t i Nothing
+    pub comment_none : a ≡ false → Commented t i None
     comment_none f = record { reads = ends (rw (sym p ∙ f) at looked); behind = tt }
 
     module _ (f : a ≡ true) {b : Bool} (q : b ≡ is 0x2F (cell_at t (i + 1))) where
-      pub comment-line : b ≡ true → {j : ℕ} → Passed is_in_line t (i + 2) j → Commented t i (At j)
+      pub comment-line : b ≡ true → {j : ℕ} → Passed is_in_line t (i + 2) j → Commented t i (Some j)
       comment-line g {j} l =
           let n = l.from in
           record {
@@ -100,7 +99,7 @@ module _ (t : List ℕ) (i : ℕ) where
           }
 
       module _ (g : b ≡ false) {c : Bool} (r : c ≡ is 0x2A (cell_at t (i + 1))) where
-        pub comment_block : c ≡ true → {j : ℕ} → BlockEnds t (i + 2) j → Commented t i (At j)
+        pub comment_block : c ≡ true → {j : ℕ} → BlockEnds t (i + 2) j → Commented t i (Some j)
         comment_block h {j} k =
             let n = k.from in
             record {
@@ -108,32 +107,35 @@ module _ (t : List ℕ) (i : ℕ) where
               behind = (omega arith, k.within);
             }
 
-        pub comment_other : c ≡ false → Commented t i Nothing
+        pub comment_other : c ≡ false → Commented t i None
         comment_other h = record { reads = ends (rw (sym p ∙ f, sym q ∙ g, sym r ∙ h) at looked); behind = tt }
 
--- The loop over comments stands at i, with turns left for more than is left of the text.
+-- The loop over comments stands at i, behind whitespace, with turns left for more than is left of the text.
 pub record Skipping (t : List ℕ) (i : ℕ) : Type 0 where
   pub inside : i ≤ length t
   pub left : ℕ
-  pub enough : length t - i < left
-  pub going : Going t (skip fuel) (skip_from fuel left i) (i + 2)
+  pub enough : length t - i < suc left
+  pub going : Going t (skip fuel) (comment fuel i >>= (λ c. maybe c (done i) (λ e. skip_from fuel left e))) (i + 2)
 
-pub skipping_none : (t : List ℕ) → length t ≤ max_chars → Skipping t 0
-skipping_none t small = record { inside = omega arith; left = fuel; enough = omega arith; going = wider (start t (skip fuel)) 2 (omega arith) }
+module _ {t : List ℕ} (small : length t ≤ max_chars) where
+  -- Whitespace from i to j is passed, with a turn of those left.
+  turned : {i j : ℕ} (left : ℕ) → Going t (skip fuel) (skip_from fuel (suc left) i) (i + 2) → Passed is_whitespace t i j → Going t (skip fuel) (comment fuel j >>= (λ c. maybe c (done j) (λ e. skip_from fuel left e))) (j + 2)
+  unfolding skip_from
+  turned left g d = let n = d.from in by (exactly (sees_blanks d small)) _ g (_ + 2) (omega arith) (omega arith)
 
-module _ {t : List ℕ} {i j : ℕ} (s : Skipping t i) (small : length t ≤ max_chars) (d : Passed is_whitespace t i j) where
-  turned : Going t (skip fuel) (skip_from fuel (suc (s.left - 1)) i) (i + 2)
-  turned = let n = s.enough in let e : s.left ≡ suc (s.left - 1) = omega arith in rw e at s.going
+  pub skipping_none : {j : ℕ} → Passed is_whitespace t 0 j → Skipping t j
+  skipping_none d =
+      let e : fuel ≡ suc (fuel - 1) = omega arith in
+      let g = subst (λ n. Going t (skip fuel) (skip_from fuel n 0) 0) e (start t (skip fuel)) in
+      record { inside = d.within; left = fuel - 1; enough = omega arith; going = turned _ (wider g 2 (omega arith)) d }
 
-  module _ {o : Option ℕ} {far : ℕ} (c : Reads t (comment fuel j) o far) (n : j + 2 ≤ far) where
-    commented : Going t (skip fuel) (maybe o (done j) (λ e. skip_from fuel (s.left - 1) e)) far
-    unfolding skip_from
-    commented = let f = d.from in by c _ (by (exactly (sees_blanks d small)) _ turned (j + 2) (omega arith) (omega arith)) far n (omega arith)
+  module _ {i : ℕ} (s : Skipping t i) where
+    pub skipping_end : Commented t i None → Reads t (skip fuel) i (i + 2)
+    skipping_end c = ends (by c.reads _ s.going (i + 2) (omega arith) (omega arith))
 
-  pub skipping_end : Commented t j Nothing → Reads t (skip fuel) j (j + 2)
-  skipping_end c = ends (commented c.reads (omega arith))
-
-  pub skipping_more : {e : ℕ} → Commented t j (At e) → Skipping t e
-  skipping_more {e} c =
-      let b = c.behind in let f = d.from in let n = s.enough in
-      record { inside = b.1; left = s.left - 1; enough = omega arith; going = commented c.reads (omega arith) }
+    pub skipping_more : {e j : ℕ} → Commented t i (Some e) → Passed is_whitespace t e j → Skipping t j
+    skipping_more {e} c d =
+        let b = c.behind in let f = d.from in let n = s.enough in
+        let z : s.left ≡ suc (s.left - 1) = omega arith in
+        let g = by c.reads _ s.going (e + 2) (omega arith) (omega arith) in
+        record { inside = d.within; left = s.left - 1; enough = omega arith; going = turned _ (rw z at g) d }

@@ -3,8 +3,6 @@ use Rattle.std.specs.Prelude.{List, ℕ, ◌+◌, ◌≤◌, ◌<◌, length, Op
 use Rattle.reading.specs.Goes.{Reads}
 use Rattle.lexer.specs.Skip.{block_end, comment}
 use Rattle.lexer.specs.Token.{fuel}
-use Rattle.lexer.specs.declared.skip.Found.{Found}
-use Rattle.lexer.specs.declared.skip.Found.TheVariants.{Nothing, At}
 
 -- The inside of a block comment from i on ends before r.
 pub record BlockEnds (t : List ℕ) (i r : ℕ) : Type 0 where
@@ -12,19 +10,15 @@ pub record BlockEnds (t : List ℕ) (i r : ℕ) : Type 0 where
   pub within : r ≤ length t
   pub reads : Reads t (block_end fuel i) r (r + 1)
 
-abbrev pub found_of : Found → Option ℕ
-found_of Nothing = None
-found_of (At j) = Some j
-
 -- A comment at i ends behind i and has been looked at to its end; or there is none.
-abbrev pub Behind : List ℕ → ℕ → Found → Type 0
-Behind t i Nothing = Unit
-Behind t i (At j) = (i < j) × (j ≤ length t)
+abbrev pub Behind : List ℕ → ℕ → Option ℕ → Type 0
+Behind t i None = Unit
+Behind t i (Some j) = (i < j) × (j ≤ length t)
 
-abbrev pub looked_at : ℕ → Found → ℕ
-looked_at i Nothing = i + 2
-looked_at i (At j) = j + 2
+abbrev pub looked_at : ℕ → Option ℕ → ℕ
+looked_at i None = i + 2
+looked_at i (Some j) = j + 2
 
-pub record Commented (t : List ℕ) (i : ℕ) (r : Found) : Type 0 where
-  pub reads : Reads t (comment fuel i) (found_of r) (looked_at i r)
+pub record Commented (t : List ℕ) (i : ℕ) (r : Option ℕ) : Type 0 where
+  pub reads : Reads t (comment fuel i) r (looked_at i r)
   pub behind : Behind t i r

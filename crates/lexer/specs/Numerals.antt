@@ -28,6 +28,9 @@ pub record Numbered (t : List ℕ) (i : ℕ) (n : Number) : Type 0 where
   pub third : n.exponent ≤ n.end
   pub within : n.end ≤ length t
 
+abbrev pub places : ℕ → ℕ → ℕ → Bool → ℕ → ℕ → ℕ → Number
+places b f a m x e r = record { before = b; from = f; after = a; minus = m; exponent = x; end = e; reach = r }
+
 -- The digits as they are written.
 abbrev pub digits_of : List ℕ → ℕ → Number → List ℕ
 digits_of t i n = or_zero (part t i n.before) ++ part t n.from n.after ++ part t n.exponent n.end

@@ -1,97 +1,40 @@
-// Looks at one cell: whether it is there and of a class.
-ghost use Rattle.std.specs.Prelude.{◌≡◌, ◌≤◌, max, length};
+// Looks at cells: whether one is there and of a class, and how far a class goes on.
+ghost use Rattle.std.specs.Prelude.{◌≡◌, ◌≤◌, length, take_while};
 ghost use Rattle.reading.specs.Look.{cell_at};
 ghost use Rattle.reading.specs.Cells.{holds, is};
 ghost use Rattle.reading.proofs.Passed.{Passed};
-ghost use Rattle.text.specs.Classes.{is_whitespace, is_digit, is_name_part, is_symbol};
 
+use text::classes::Class;
+
+#[inline]
 pub fn is_at(rest: &[u32], i: usize, x: u32) -> bool
     ensures { result ≡ is x (cell_at rest.now i) }
 {
-    if rest.len() <= i {
-        return false;
-    }
-    x == rest[i]
+    rest.get(i).is_some_and(|c| x == *c)
 }
 
-fn whitespace_at(rest: &[u32], i: usize) -> bool
-    ensures { result ≡ holds is_whitespace (cell_at rest.now i) }
+// Ruled out, among others: the end taken for a cell of the class.
+#[inline]
+pub fn holds_at<C: Class>(rest: &[u32], i: usize) -> bool
+    ensures { result ≡ holds C.class (cell_at rest.now i) }
 {
-    if rest.len() <= i {
-        return false;
-    }
-    text::classes::is_whitespace(rest[i])
+    rest.get(i).is_some_and(|c| C::has(*c))
 }
 
-pub fn digit_at(rest: &[u32], i: usize) -> bool
-    ensures { result ≡ holds is_digit (cell_at rest.now i) }
+// How many cells of the class stand at the front.
+#[inline]
+fn count<C: Class>(cells: &[u32]) -> usize
+    ensures { result ≡ length (take_while C.class cells.now) }
 {
-    if rest.len() <= i {
-        return false;
-    }
-    text::classes::is_digit(rest[i])
+    cells.iter().take_while(|c| C::has(**c)).count()
 }
 
-pub fn name_part_at(rest: &[u32], i: usize) -> bool
-    ensures { result ≡ holds is_name_part (cell_at rest.now i) }
-{
-    if rest.len() <= i {
-        return false;
-    }
-    text::classes::is_name_part_char(rest[i])
-}
-
-pub fn symbol_at(rest: &[u32], i: usize) -> bool
-    ensures { result ≡ holds is_symbol (cell_at rest.now i) }
-{
-    if rest.len() <= i {
-        return false;
-    }
-    text::classes::is_additional_name_symbol(rest[i])
-}
-
-// The end of the whitespace that starts at i.
-pub fn blanks(rest: &[u32], i: usize) -> usize
+// The end of the cells of the class that start at i.
+// Ruled out, among others: the first cell of another class passed, too.
+#[inline]
+pub fn end_of<C: Class>(rest: &[u32], i: usize) -> usize
     requires { i ≤ length rest.now }
-    ensures { Passed is_whitespace rest.now i result }
+    ensures { Passed C.class rest.now i result }
 {
-    let mut j = i;
-    while whitespace_at(rest, j) {
-        j += 1;
-    }
-    j
-}
-
-// The end of the digits that start at i.
-pub fn digits(rest: &[u32], i: usize) -> usize
-    requires { i ≤ length rest.now }
-    ensures { Passed is_digit rest.now i result }
-{
-    let mut j = i;
-    while digit_at(rest, j) {
-        j += 1;
-    }
-    j
-}
-
-// The end of the word that starts at i.
-pub fn word(rest: &[u32], i: usize) -> usize
-    requires { i ≤ length rest.now }
-    ensures { Passed is_name_part rest.now i result }
-{
-    let mut j = i;
-    while name_part_at(rest, j) {
-        j += 1;
-    }
-    j
-}
-
-// The larger of two reaches.
-pub fn larger(a: usize, b: usize) -> usize
-    ensures { result ≡ max a b }
-{
-    if a <= b {
-        return b;
-    }
-    a
+    i + count::<C>(&rest[i..])
 }

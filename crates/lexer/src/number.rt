@@ -1,14 +1,16 @@
 // Numbers: their places in the text, and their digits written out.
-ghost use Rattle.std.specs.Prelude.{◌≡◌, ◌||◌, ◌≤◌, length};
+ghost use Rattle.std.specs.Prelude.{◌≡◌, ◌||◌, ◌+◌, ◌≤◌, length};
 ghost use Rattle.reading.specs.Look.{cell_at};
 ghost use Rattle.reading.specs.Cells.{is};
 ghost use Rattle.reading.specs.Span.{part};
 ghost use Rattle.reading.specs.Slices.{Wrote};
 ghost use Rattle.text.specs.Limits.{max_chars};
 ghost use Rattle.lexer.specs.Number.{or_zero};
-ghost use Rattle.lexer.specs.Numerals.{Signed, Exponented, Numbered, digits_of};
+ghost use Rattle.lexer.specs.Numerals.{Signed, Exponented, Numbered, digits_of, places};
 
+use crate::look;
 use text::chars::Char;
+use text::classes::Digit;
 
 // Whether the sign is a minus, and the place behind it.
 #[derive(Clone, Copy)]
@@ -21,31 +23,23 @@ fn read_sign(rest: &[u32], i: usize) -> Sign
     requires { i ≤ length rest.now }
     ensures { Signed rest.now i result.minus result.end }
 {
-    if crate::look::is_at(rest, i, Char::PLUS) {
+    if look::is_at(rest, i, Char::PLUS) {
         return Sign {
             minus: false,
             end: i + 1,
         };
     }
-    if crate::look::is_at(rest, i, Char::MINUS) {
-        return Sign {
-            minus: true,
-            end: i + 1,
-        };
-    }
+    let minus = look::is_at(rest, i, Char::MINUS);
     Sign {
-        minus: false,
-        end: i,
+        minus,
+        end: i + usize::from(minus),
     }
 }
 
 fn exponent_letter_at(rest: &[u32], i: usize) -> bool
     ensures { result ≡ is 0x65 (cell_at rest.now i) || is 0x45 (cell_at rest.now i) }
 {
-    if crate::look::is_at(rest, i, Char::SMALL_E) {
-        return true;
-    }
-    crate::look::is_at(rest, i, Char::CAPITAL_E)
+    look::is_at(rest, i, Char::SMALL_E) || look::is_at(rest, i, Char::CAPITAL_E)
 }
 
 // The exponent's sign, and where its digits begin and end.
@@ -68,13 +62,11 @@ fn read_exponent(rest: &[u32], i: usize) -> Exponent
             end: i,
         };
     }
-    let s = read_sign(rest, i + 1);
-    let from = s.end;
-    let end = crate::look::digits(rest, from);
+    let sign = read_sign(rest, i + 1);
     Exponent {
-        minus: s.minus,
-        from,
-        end,
+        minus: sign.minus,
+        from: sign.end,
+        end: look::end_of::<Digit>(rest, sign.end),
     }
 }
 
@@ -90,47 +82,47 @@ pub struct Number {
     pub reach: usize,
 }
 
+impl Number {
+    // A number with the exponent that stands behind its digits, which has been looked at to its end.
+    fn with(before: usize, from: usize, after: usize, e: Exponent) -> Number
+        requires { e.end ≤ max_chars }
+        ensures { result ≡ places before from after e.minus e.from e.end (e.end + 1) }
+    {
+        Number {
+            before,
+            from,
+            after,
+            minus: e.minus,
+            exponent: e.from,
+            end: e.end,
+            reach: e.end + 1,
+        }
+    }
+}
+
 // The number that starts at i, with a digit or with a point before a digit.
 // Ruled out, among others: the point taken before no digit; the exponent's sign taken for the number's end.
 pub fn read_number(rest: &[u32], i: usize) -> Number
     requires { (length rest.now ≤ max_chars) × (i ≤ length rest.now) }
     ensures { Numbered rest.now i result }
 {
-    let b = crate::look::digits(rest, i);
-    if !crate::look::is_at(rest, b, Char::DOT) {
-        let e = read_exponent(rest, b);
-        return Number {
-            before: b,
-            from: b,
-            after: b,
-            minus: e.minus,
-            exponent: e.from,
-            end: e.end,
-            reach: e.end + 1,
-        };
+    let before = look::end_of::<Digit>(rest, i);
+    if !look::is_at(rest, before, Char::DOT) {
+        return Number::with(before, before, before, read_exponent(rest, before));
     }
-    if !crate::look::digit_at(rest, b + 1) {
+    if !look::holds_at::<Digit>(rest, before + 1) {
         return Number {
-            before: b,
-            from: b,
-            after: b,
+            before,
+            from: before,
+            after: before,
             minus: false,
-            exponent: b,
-            end: b,
-            reach: b + 2,
+            exponent: before,
+            end: before,
+            reach: before + 2,
         };
     }
-    let a = crate::look::digits(rest, b + 1);
-    let e = read_exponent(rest, a);
-    Number {
-        before: b,
-        from: b + 1,
-        after: a,
-        minus: e.minus,
-        exponent: e.from,
-        end: e.end,
-        reach: e.end + 1,
-    }
+    let after = look::end_of::<Digit>(rest, before + 1);
+    Number::with(before, before + 1, after, read_exponent(rest, after))
 }
 
 // Writes the digits before the point, or a zero, to the front of out.

@@ -4,6 +4,9 @@ ghost use Rattle.reading.specs.Slices.{Wrote};
 ghost use Rattle.text.specs.Limits.{max_chars};
 ghost use Rattle.lexer.specs.Places.{here_of, start_of, next_of, Placed, Counted, prefix, spelling};
 
+use crate::look;
+use text::classes::{NamePart, Symbol, Whitespace};
+
 // At: where a part starts and ends. Over: where the walk ends.
 #[derive(Clone, Copy)]
 pub enum Next {
@@ -16,11 +19,11 @@ fn part_at(rest: &[u32], i: usize) -> Next
     requires { i ≤ length rest.now }
     ensures { (result ≡ here_of rest.now i) × Placed rest.now i result }
 {
-    if crate::look::name_part_at(rest, i) {
-        let j = crate::look::word(rest, i);
+    if look::holds_at::<NamePart>(rest, i) {
+        let j = look::end_of::<NamePart>(rest, i);
         return Next::At(i, j);
     }
-    if crate::look::symbol_at(rest, i) {
+    if look::holds_at::<Symbol>(rest, i) {
         return Next::At(i, i + 1);
     }
     Next::Over(i)
@@ -31,13 +34,13 @@ fn part_start(rest: &[u32], i: usize) -> usize
     requires { i ≤ length rest.now }
     ensures { (result ≡ start_of rest.now i) × (i ≤ result) × (result ≤ length rest.now) }
 {
-    if crate::look::name_part_at(rest, i) {
+    if look::holds_at::<NamePart>(rest, i) {
         return i;
     }
-    if crate::look::symbol_at(rest, i) {
+    if look::holds_at::<Symbol>(rest, i) {
         return i;
     }
-    crate::look::blanks(rest, i)
+    look::end_of::<Whitespace>(rest, i)
 }
 
 // The next part of a name from i on.

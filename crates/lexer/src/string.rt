@@ -6,6 +6,7 @@ ghost use Rattle.lexer.specs.Text as spec;
 ghost use Rattle.lexer.specs.Pieces.{as_plain, Hexed, Pieced, Plain, Inside, Written};
 
 use text::chars::Char;
+use text::classes::{Class, VerticalSpace};
 use text::refusal::Refusal;
 
 // The halves of pairs, each with ten bits of the character, the first character that takes a pair, and the last of all.
@@ -199,7 +200,7 @@ fn read_piece(rest: &[u32], i: usize) -> Piece
     if Char::QUOTE == x {
         return Piece::Quote(i + 1);
     }
-    if text::classes::is_vertical_space(x) {
+    if VerticalSpace::has(x) {
         return Piece::LineEnd(i);
     }
     Piece::Char(x, i + 1)
@@ -219,7 +220,7 @@ fn plain_at(rest: &[u32], i: usize) -> bool
     if Char::QUOTE == x {
         return false;
     }
-    !text::classes::is_vertical_space(x)
+    !VerticalSpace::has(x)
 }
 
 // How many characters a string has and where it ends; where a line's end or the text's end broke it off; or number, carry, place and reach of a refusal.

@@ -8,6 +8,7 @@ ghost use Rattle.lexer.specs.Shown.{window_of};
 
 use std::array;
 use text::chars::Char;
+use text::classes::{Class, Whitespace};
 
 // From the space up to here a window shows every character as it stands.
 const LAST_PLAIN: u32 = 0x84;
@@ -23,7 +24,7 @@ pub fn shown_at(rest: &[u32], i: usize) -> u32
     ensures { result ≡ shown (cell_at rest.now i) }
 {
     match rest.get(i) {
-        Some(c) if is_plain(*c) || !text::classes::is_whitespace(*c) => *c,
+        Some(c) if is_plain(*c) || !Whitespace::has(*c) => *c,
         _ => Char::SPACE,
     }
 }

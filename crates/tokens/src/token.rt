@@ -65,12 +65,12 @@ fn number_at(rest: &[u32], i: usize, q: usize, flags: Flags, out: &mut [u32]) ->
     ensures { Takes rest.now q (with_flags (flags_of flags) (read_number fuel i)) out.old result out.new }
 {
     let n = lexer::number::read_number(rest, i);
-    let before = lexer::look::larger(n.before - i, 1);
+    let before = (n.before - i).max(1);
     let after = n.after - n.from;
     let minus = n.minus;
     let exponent = n.end - n.exponent;
     let end = n.end;
-    let reach = lexer::look::larger(q, n.reach);
+    let reach = q.max(n.reach);
     lexer::number::write_number(rest, i, n, out);
     Outcome {
         read: Read::Numeric(before, after, minus, exponent),
@@ -89,7 +89,7 @@ fn string_at(rest: &[u32], i: usize, q: usize, flags: Flags, out: &mut [u32]) ->
     match l {
         Literal::Chars(_, end) => {
             let n = lexer::string::write_string(rest, i + 1, out);
-            let reach = lexer::look::larger(q, end + 1);
+            let reach = q.max(end + 1);
             Outcome {
                 read: Read::Chars(TokenType::STRING, n),
                 used: end,
@@ -98,15 +98,15 @@ fn string_at(rest: &[u32], i: usize, q: usize, flags: Flags, out: &mut [u32]) ->
             }
         }
         Literal::LineEnds(end) => {
-            let reach = lexer::look::larger(q, end + 2);
+            let reach = q.max(end + 2);
             plain(TokenType::YY_UNDEF, end, flags, reach)
         }
         Literal::TextEnds(end) => {
-            let reach = lexer::look::larger(q, end + 2);
+            let reach = q.max(end + 2);
             plain(TokenType::YY_EOF, end, flags, reach)
         }
         Literal::Broken(n, carry, end, far) => {
-            let reach = lexer::look::larger(q, far);
+            let reach = q.max(far);
             Outcome {
                 read: Read::Refused(n, carry),
                 used: end,
@@ -152,7 +152,7 @@ fn other_cases(
         let read = o.read;
         let used = o.used;
         let after = o.flags;
-        let reach = lexer::look::larger(q, o.reach);
+        let reach = q.max(o.reach);
         return Outcome {
             read,
             used,

@@ -13,6 +13,7 @@ use lexer::flags::Flags;
 use lexer::token_type::TokenType;
 use lexer::{look, window};
 use text::chars::Char;
+use text::classes::Whitespace;
 
 // What must follow a word: in the window's next place or, of the last two, behind optional whitespace.
 #[derive(Clone, Copy)]
@@ -219,7 +220,7 @@ fn follows(
 {
     match follower {
         Follower::Less | Follower::ParenOrLess => {
-            let j = look::blanks(rest, i + n);
+            let j = look::end_of::<Whitespace>(rest, i + n);
             let far = reach.max(j + 1);
             Behind {
                 stands: follower_at(rest, j, follower),

@@ -1,11 +1,9 @@
--- Past the end, or by the cell.
-use native.Mathlib.Omega.{arith}
-use lib.Dec.{eqb}
-use Rattle.reading.proofs.Cell.{holds_in, holds_out}
+-- The cell that is there, or none.
+use Rattle.std.proofs.Common.{rules, MatchOption, ◌≡◌, false, nat_eq}
+use Rattle.lexer.proofs.LookLaws.{found}
 use Rattle.lexer.proofs.look.is_at.Goals as goal
 
-pub returns-then-rest-i : goal.returns-then-rest-i
-returns-then-rest-i c = holds_out (eqb c.args.x) _ _ c.if-rest-i.true
-
 pub returns : goal.returns
-returns c = holds_in (eqb c.args.x) _ _ (omega arith)
+returns c =
+    let e : MatchOption c.get.result (c.is_some_and.result ≡ false) (λ x. c.is_some_and.result ≡ nat_eq c.args.x x.now) = search rules in
+    found (nat_eq c.args.x) _ _ c.get.result c.is_some_and.result (search rules) e

@@ -1,6 +1,6 @@
 -- One record carries the reading through the inside.
 use Rattle.lexer.proofs.SkipLaws.{closing_none, closing_more, closing_found, closing_end}
-use native.Mathlib.Omega.{arith}
+use Rattle.std.proofs.Common.{◌≡◌, length, arith}
 use Rattle.lexer.proofs.skip.block_end.Goals as goal
 
 pub loop-i-init : goal.loop-i-init
@@ -13,4 +13,4 @@ pub loop-i-preserved : goal.loop-i-preserved
 loop-i-preserved c = closing_more c.loop-i.invariant (omega arith) (omega arith) c.ends_at.ensures c.if-ends_at.false
 
 pub returns : goal.returns
-returns c = closing_end c.loop-i.invariant (omega arith) (omega arith)
+returns c = let e : c.loop-i.i ≡ length c.args.rest.now = omega arith in rw e at (closing_end c.loop-i.invariant (omega arith) (omega arith))

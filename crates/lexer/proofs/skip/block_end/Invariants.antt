@@ -1,11 +1,6 @@
 -- One record carries the reading through the inside.
-use Prim.Native.Nat.{◌-◌}
-use lib.ListN.{length}
 use Rattle.lexer.proofs.SkipLaws.{Closing}
 use Rattle.lexer.proofs.skip.block_end.Given as goal
 
 abbrev pub invariant-loop-i : goal.invariant-loop-i
 invariant-loop-i l = Closing l.rest l.from l.i
-
-abbrev pub decreases-loop-i : goal.decreases-loop-i
-decreases-loop-i l = length l.rest - l.i

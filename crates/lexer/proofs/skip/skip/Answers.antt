@@ -1,18 +1,13 @@
 -- One record carries the reading over comments.
-use mathlib.Core.Path.{subst}
-use Rattle.lexer.specs.Answers.{Commented}
+use Rattle.std.proofs.Common.{arith}
 use Rattle.lexer.proofs.SkipLaws.{skipping_none, skipping_more, skipping_end}
-use native.Mathlib.Omega.{arith}
 use Rattle.lexer.proofs.skip.skip.Goals as goal
 
-pub loop-e-init : goal.loop-e-init
-loop-e-init c = skipping_none _ (omega arith)
+pub loop-end-init : goal.loop-end-init
+loop-end-init c = skipping_none (omega arith) c.end_of-i.ensures
 
-pub returns-in-Nothing : goal.returns-in-Nothing
-returns-in-Nothing c = (skipping_end c.loop-e.invariant (omega arith) c.blanks-j.ensures (subst (Commented _ _) c.in-Nothing.is c.comment-c.ensures), omega arith)
+pub returns : goal.returns
+returns c = (skipping_end (omega arith) c.loop-end.invariant c.in_default.ensures, omega arith)
 
-pub loop-e-smaller : goal.loop-e-smaller
-loop-e-smaller c = let m = subst (Commented _ _) c.in-At.is c.comment-c.ensures in let b = m.behind in omega arith
-
-pub loop-e-preserved : goal.loop-e-preserved
-loop-e-preserved c = skipping_more c.loop-e.invariant (omega arith) c.blanks-j.ensures (subst (Commented _ _) c.in-At.is c.comment-c.ensures)
+pub loop-end-preserved : goal.loop-end-preserved
+loop-end-preserved c = skipping_more (omega arith) c.loop-end.invariant c.in-Some.ensures c.end_of-i-in-Some.ensures

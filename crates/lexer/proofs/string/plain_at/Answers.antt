@@ -14,4 +14,4 @@ pub returns-then-x-eq-QUOTE : goal.returns-then-x-eq-QUOTE
 returns-then-x-eq-QUOTE c = λ e. absurd (false≢true e)
 
 pub returns : goal.returns
-returns c = λ e. plain_piece _ _ (omega arith) c.if-x-eq-BACKSLASH.false c.if-x-eq-QUOTE.false c.is_vertical_space.ensures e
+returns c = λ e. plain_piece _ _ (omega arith) c.if-x-eq-BACKSLASH.false c.if-x-eq-QUOTE.false c.has.ensures e

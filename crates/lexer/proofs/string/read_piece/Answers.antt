@@ -15,8 +15,8 @@ returns-then-x-eq-BACKSLASH c = piece_escape _ _ (omega arith) c.if-x-eq-BACKSLA
 pub returns-then-x-eq-QUOTE : goal.returns-then-x-eq-QUOTE
 returns-then-x-eq-QUOTE c = piece_ended _ _ (omega arith) c.if-x-eq-BACKSLASH.false c.if-x-eq-QUOTE.true
 
-pub returns-then-is_vertical_space : goal.returns-then-is_vertical_space
-returns-then-is_vertical_space c = piece_undef _ _ (omega arith) c.if-x-eq-BACKSLASH.false c.if-x-eq-QUOTE.false c.is_vertical_space.ensures c.if-is_vertical_space.true
+pub returns-then-has : goal.returns-then-has
+returns-then-has c = piece_undef _ _ (omega arith) c.if-x-eq-BACKSLASH.false c.if-x-eq-QUOTE.false c.has.ensures c.if-has.true
 
 pub returns : goal.returns
-returns c = piece_one _ _ (omega arith) c.if-x-eq-BACKSLASH.false c.if-x-eq-QUOTE.false c.is_vertical_space.ensures c.if-is_vertical_space.false
+returns c = piece_one _ _ (omega arith) c.if-x-eq-BACKSLASH.false c.if-x-eq-QUOTE.false c.has.ensures c.if-has.false

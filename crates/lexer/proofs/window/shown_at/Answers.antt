@@ -10,7 +10,7 @@ returns-in-Some c =
     let e : c.in-Some.c.now ≡ get_or c.args.rest.now c.args.i 0 = search rules in
     elim c.if-is_plain.branch [
       | then-is_plain w ↦ shown-plain _ _ l e c.is_plain.ensures w.if-is_plain.true
-      | else-is_plain w ↦ let f : w.is_whitespace.result ≡ false = search rules in shown_self _ _ l e w.is_whitespace.ensures f
+      | else-is_plain w ↦ let f : w.has.result ≡ false = search rules in shown_self _ _ l e w.has.ensures f
     ]
 
 pub returns-in_default : goal.returns-in_default
@@ -19,7 +19,7 @@ returns-in_default c =
     let e : c.in-Some.c.now ≡ get_or c.args.rest.now c.args.i 0 = search rules in
     elim c.if-is_plain.branch [
       | then-is_plain w ↦ cc
-      | else-is_plain w ↦ let f : w.is_whitespace.result ≡ true = search rules in shown_space _ _ l e w.is_whitespace.ensures f
+      | else-is_plain w ↦ let f : w.has.result ≡ true = search rules in shown_space _ _ l e w.has.ensures f
     ]
 
 pub returns-in_default-2 : goal.returns-in_default-2

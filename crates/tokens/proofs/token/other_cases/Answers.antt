@@ -22,7 +22,7 @@ read_name-o-requires c = (omega arith, name_there _ _ c.requires.2 (sym c.is_nam
 pub returns-then-is_name_start_char : goal.returns-then-is_name_start_char
 returns-then-is_name_start_char c =
     let x = c.args in
-    (takes_as (case_name (flags_of x.flags) (is_name (scope_of (lent x.s x.slots.now x.names.now))) x.rest.now x.i c.requires.2 c.is_digit.ensures c.if-is_digit.false c.is_name_start_char.ensures c.if-is_name_start_char.true) (takes_later c.read_name-o.ensures.0 _ c.larger-reach.ensures), c.read_name-o.ensures.1)
+    (takes_as (case_name (flags_of x.flags) (is_name (scope_of (lent x.s x.slots.now x.names.now))) x.rest.now x.i c.requires.2 c.is_digit.ensures c.if-is_digit.false c.is_name_start_char.ensures c.if-is_name_start_char.true) (takes_later c.read_name-o.ensures.0 _ c.max-reach.ensures), c.read_name-o.ensures.1)
 
 pub returns-then-is_blank : goal.returns-then-is_blank
 returns-then-is_blank c =
