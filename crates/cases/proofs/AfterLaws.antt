@@ -2,16 +2,15 @@
 use mathlib.Core.Path.{◌≡◌, refl, ap, ◌∙◌}
 use mathlib.Core.Bool.{false}
 use mathlib.Core.List.{List}
-use borrow.Author.Tests.{ne_eqb}
 use Prim.Native.Nat.{ℕ, suc, ◌-◌, ◌≤◌, ◌<◌}
 use native.Mathlib.Omega.{arith}
 use Rattle.std.specs.Prelude.{Ok, Err}
 use Rattle.scope.specs.declared.scope.Scope.{Scope}
 use Rattle.scope.specs.Entries.{ParsingScope}
-use Rattle.scope.specs.Calls.{Changed, pop, set_entry_name, add_parsed_name}
-use Rattle.scope.specs.Lent.{Lent, is_broken, scope_of, on_scope, push_list, set_context_list}
+use Rattle.scope.specs.Calls.{Changed}
+use Rattle.scope.specs.Lent.{is_broken, scope_of, on_scope}
 use Rattle.scope.specs.Answers.{Answer, lent, answer_of, Kept, Whole}
-use Rattle.cases.specs.After.{after_call, after_change, call_of, call_end, after_call_at, after_calls}
+use Rattle.cases.specs.After.{after_call, after_change, call_end, after_call_at, after_calls}
 
 -- Rows that were not lent to be changed.
 pub kept_same : (a : Answer) (rows : List (List ℕ)) → Kept a rows rows
@@ -32,28 +31,6 @@ pub after_model : (a : Answer) (s : Scope) (ss ns ss' ns' : List (List ℕ)) (m 
 after_model a s ss ns ss' ns' m k l e h =
     let n : on_scope (lent s ss ns) m ≡ m (scope_of (lent s ss ns)) = rw h in
     after-change a s ss ns ss' ns' k l ∙ ap (λ x. after_change x (scope_of (lent s ss ns))) (e ∙ n)
-
--- Each number is a call of its own, and any other adds a parsed name.
-module _ (call : ℕ) (l : Lent) (name cells : List ℕ) (rows : List (List ℕ)) {a : Changed} where
-  pub made_push : call ≡ 0 → a ≡ on_scope l (push_list cells rows) → a ≡ on_scope l (call_of call name cells rows)
-  unfolding call_of
-  made_push e q = rw e q
-
-  pub made_pop : call ≡ 1 → a ≡ on_scope l pop → a ≡ on_scope l (call_of call name cells rows)
-  unfolding call_of
-  made_pop e q = rw e q
-
-  pub made_name : call ≡ 2 → a ≡ on_scope l (set_entry_name name) → a ≡ on_scope l (call_of call name cells rows)
-  unfolding call_of
-  made_name e q = rw e q
-
-  pub made_context : call ≡ 3 → a ≡ on_scope l (set_context_list name cells rows) → a ≡ on_scope l (call_of call name cells rows)
-  unfolding call_of
-  made_context e q = rw e q
-
-  pub made_parsed : (call ≡ 0 → ⊥) → (call ≡ 1 → ⊥) → (call ≡ 2 → ⊥) → (call ≡ 3 → ⊥) → a ≡ on_scope l (add_parsed_name name) → a ≡ on_scope l (call_of call name cells rows)
-  unfolding call_of
-  made_parsed h i j k q = rw (ne_eqb call 0 h, ne_eqb call 1 i, ne_eqb call 2 j, ne_eqb call 3 k) q
 
 -- One call more, and none left.
 module _ (l : List ℕ) where

@@ -3,12 +3,11 @@ use mathlib.Core.Path.{◌≡◌, refl, sym, ap, ◌∙◌}
 use mathlib.Core.List.{List, [], ◌∷◌, ◌++◌}
 use Prim.Native.Nat.{ℕ, zero, suc, ◌+◌, ◌-◌, ◌≤◌, ◌<◌}
 use native.Mathlib.Omega.{arith}
-use lib.ListN.{length, set, take}
-use lib.Seq.{take_all}
+use lib.ListN.{length, set}
 use Rattle.cases.specs.Laid.{laid, Lays}
 use Rattle.cases.specs.Fields.{decimal_at, decimal_end, cells_at, cells_end}
 use Rattle.cases.specs.Entries.{name_at, entry_end, names_at, entries_end, cell, row_at, name_end, rows_at}
-use Rattle.cases.proofs.LaidLaws.{Still, still_all, still_more, still_none, lays_one, taken}
+use Rattle.cases.proofs.LaidLaws.{Still, still_more, still_none, lays_one, laid_over}
 
 length-rows : (n : ℕ) (l : List ℕ) (i room k : ℕ) → length (rows_at n l i room k) ≡ n
 unfolding rows_at
@@ -33,11 +32,6 @@ pub record Listing (l : List ℕ) (from count : ℕ) (rows₀ : List (List ℕ))
   pub rowed : Still rows₀ 0 (rows_at count l from (length cells₀) 0) rows n (rows_at (count - n) l i (length cells₀) k)
   pub named : Still cells₀ 0 (names_at count l from) cells k (names_at (count - n) l i)
   pub end : entries_end count l from ≡ entries_end (count - n) l i
-
-pub listing_none : {l : List ℕ} {from count : ℕ} {rows : List (List ℕ)} {cells : List ℕ} → Listing l from count rows cells rows cells 0 0 from
-listing_none {l} {from} {count} {rows} {cells} =
-    let z : count - 0 ≡ count = omega arith in
-    record { within = omega arith; rowed = rw z (still_all _ (omega arith)); named = rw z (still_all _ (omega arith)); end = rw z }
 
 listing_more : {l : List ℕ} {from count : ℕ} {rows₀ : List (List ℕ)} {cells₀ : List ℕ} {rows : List (List ℕ)} {cells : List ℕ} {n k i : ℕ} → Listing l from count rows₀ cells₀ rows cells n k i
     → n < count → n < length rows → {row : List ℕ} {r : ℕ} {cells' : List ℕ} → Lays cells k (name_at l i) r cells' → row ≡ row_at l i k r → {e : ℕ} → e ≡ entry_end l i
@@ -67,14 +61,11 @@ module _ {l : List ℕ} {from count : ℕ} {rows₀ : List (List ℕ)} {cells₀
       let f = q.1 ∙ ap (decimal_end l) e in
       listing_more b h g (rw (← f) w.0) (rw (p.0, q.0, e, u, v)) (w.1 ∙ ap (cells_end l) f)
 
-pub listing_end : {l : List ℕ} {from count : ℕ} {rows₀ : List (List ℕ)} {cells₀ : List ℕ} {rows : List (List ℕ)} {cells : List ℕ} {n k i : ℕ} → Listing l from count rows₀ cells₀ rows cells n k i
-    → count ≤ n → Lays rows₀ 0 (rows_at count l from (length cells₀) 0) count rows × (cells ≡ laid 0 (names_at count l from) cells₀) × (i ≡ entries_end count l from)
+-- A row was read for each that was lent.
+pub listing_end : {l : List ℕ} {from : ℕ} {rows₀ : List (List ℕ)} {cells₀ : List ℕ} {rows : List (List ℕ)} {cells : List ℕ} {n k i : ℕ} → Listing l from (length rows₀) rows₀ cells₀ rows cells n k i
+    → length rows₀ ≤ n → (rows ≡ rows_at (length rows₀) l from (length cells₀) 0) × (cells ≡ laid 0 (names_at (length rows₀) l from) cells₀) × (i ≡ entries_end (length rows₀) l from)
 unfolding rows_at names_at entries_end
-listing_end {l} {from} {count} {rows₀} {cells₀} {rows} {cells} {n} {k} {i} b h =
-    let z : count - n ≡ 0 = omega arith in
-    let y : n ≡ count = omega (arith, b.within) in
-    (rw y at (still_none (rw z at b.rowed)), (still_none (rw z at b.named)).left, sym (rw z at b.end))
-
--- The rows that were read are lent on.
-pub lent_rows : (n : ℕ) (l : List ℕ) (i room k : ℕ) {rows rows' : List (List ℕ)} → Lays rows 0 (rows_at n l i room k) n rows' → n ≤ length rows → take n rows' ≡ rows_at n l i room k
-lent_rows n l i room k {rows} w h = taken w ∙ take_all (length rows) (rows_at n l i room k) (omega (arith, length-rows n l i room k))
+listing_end {l} {from} {rows₀} {cells₀} {rows} {cells} {n} {k} {i} b h =
+    let z : length rows₀ - n ≡ 0 = omega arith in
+    let e : n ≡ length rows₀ = omega (arith, b.within) in
+    (laid_over (length-rows (length rows₀) l from (length cells₀) 0) (still_none (rw z at b.rowed)), (still_none (rw z at b.named)).left, sym (rw z at b.end))

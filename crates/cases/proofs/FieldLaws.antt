@@ -2,30 +2,13 @@
 use mathlib.Core.Path.{◌≡◌, refl, sym, ap, ◌∙◌}
 use mathlib.Core.Bool.{true, false}
 use mathlib.Core.List.{List, []}
-use Prim.Native.Nat.{ℕ, ◌+◌, ◌*◌, ◌%◌, ◌≤◌, ◌<◌}
+use Prim.Native.Nat.{ℕ, ◌+◌, ◌≤◌, ◌<◌}
 use native.Mathlib.Numerals.{add-one}
-use native.Mathlib.Nat.{mul-le-mul}
-use borrow.Author.Tests.{lt-ltb, le-ltb, eq-eqb, ne_eqb}
+use borrow.Author.Tests.{lt-ltb, le-ltb}
 use native.Mathlib.Omega.{arith}
-use lib.Dec.{eqb}
 use lib.ListN.{length, get_or, drop, drop_of_length-le}
 use lib.Seq.{drop-cons}
-use Rattle.reading.specs.Look.{cell_at}
-use Rattle.reading.specs.Cells.{is}
-use Rattle.cases.specs.Fields.{to_next, next_field, digit_value, is_digit, with_digit, with_digits, number_at, digits_end, number_limit, times_at, times_end}
-
-module _ (l : List ℕ) (i : ℕ) where
-  pub next_end : length l ≤ i → next_field l i ≡ i
-  unfolding to_next
-  next_end h = let e : drop i l ≡ [] = drop_of_length-le l h in rw e (omega arith)
-
-  pub next_here : i < length l → get_or l i 0 ≡ 0x20 → next_field l i ≡ i + 1
-  unfolding to_next
-  next_here h g = let e : eqb (get_or l i 0) 0x20 ≡ true = eq-eqb (get_or l i 0) 0x20 g in rw (drop-cons l i 0 h, e)
-
-  pub next_more : i < length l → (get_or l i 0 ≡ 0x20 → ⊥) → next_field l i ≡ next_field l (i + 1)
-  unfolding to_next
-  next_more h g = let e : eqb (get_or l i 0) 0x20 ≡ false = ne_eqb (get_or l i 0) 0x20 g in rw (drop-cons l i 0 h, e, add-one) (omega arith)
+use Rattle.cases.specs.Fields.{digit_value, is_digit, with_digit, with_digits, number_at, digits_end}
 
 module _ (base n : ℕ) (l : List ℕ) (i : ℕ) where
   pub digits-end : length l ≤ i → (with_digits base n (drop i l) ≡ n) × (digits_end base l i ≡ i)
@@ -60,14 +43,3 @@ module _ {base : ℕ} {l : List ℕ} {from n i : ℕ} (k : Digits base l from n 
         value = k.value ∙ s.0 ∙ ap (λ x. with_digits base x (drop (i + 1) l)) (sym (so ∙ ap (with_digit base n) e));
         end = k.end ∙ s.1;
       }
-
--- A cut number and one more digit fit.
-pub cut_fits : (n base : ℕ) → base ≤ 16 → n % number_limit * base ≤ number_limit * 16
-cut_fits n base h = let c : n % number_limit ≤ number_limit = omega arith in mul-le-mul c h
-
-module _ (l : List ℕ) (i : ℕ) where
-  pub times_star : is 0x2a (cell_at l i) ≡ true → {n e : ℕ} → (n ≡ number_at 16 l (i + 1)) × (e ≡ digits_end 16 l (i + 1)) → (n ≡ times_at l i) × (e ≡ times_end l i)
-  times_star h p = (rw h p.0, rw h p.1)
-
-  pub times_once : is 0x2a (cell_at l i) ≡ false → (1 ≡ times_at l i) × (i ≡ times_end l i)
-  times_once h = (rw h, rw h)

@@ -1,10 +1,12 @@
 -- Writing one behind the other: nothing, nothing more for want of room, one value, and part behind part.
 use mathlib.Core.Path.{◌≡◌, refl, sym, ap, ◌∙◌}
-use mathlib.Core.List.{List, [], ◌∷◌, ◌++◌}
+use mathlib.Core.List.{List, [], ◌∷◌, ◌++◌, append-nil}
 use Prim.Native.Nat.{ℕ, zero, suc, ◌+◌, ◌-◌, ◌≤◌, ◌<◌, min}
 use native.Mathlib.Nat.{not-suc-le-zero, le_of_suc-le-suc, suc-add}
 use native.Mathlib.Omega.{arith}
-use lib.ListN.{length, set, take, replicate, length-append}
+use lib.ListN.{length, set, take, drop, replicate, length-append, length-take, length-drop, length-replicate, drop_of_length-le}
+use lib.Seq.{take_all}
+use borrow.Rule.Slice.PartMut.{put_mid}
 use Rattle.reading.proofs.Test.{by_order}
 use Rattle.cases.specs.Laid.{laid, Lays}
 
@@ -63,6 +65,49 @@ module _ {A : Type 0} where
       let e : r ≡ min (length v) (length o) = omega (arith, l.end) in
       rw (e, l.left) (take-laid v o)
 
+  -- A writer that is lent the rest of an output lays from where that begins.
+  laid_at : (k : ℕ) (v o : List A) → k ≤ length o → take k o ++ laid 0 v (drop k o) ≡ laid k v o
+  unfolding laid
+  laid_at zero v o h = refl
+  laid_at (suc k) v [] h = absurd (not-suc-le-zero h)
+  laid_at (suc k) v (x ∷ o) h = ap (λ (t : List A). x ∷ t) (laid_at k v o (le_of_suc-le-suc h))
+
+  pub lays_rest : (o : List A) (k : ℕ) → k ≤ length o → {v : List A} {n : ℕ} {o' : List A} → Lays (take (length o - k) (drop k o)) 0 v n o' → Lays o k v (k + n) (put_mid k (length o - k) o o')
+  lays_rest o k h {v} {n} {o'} l =
+      let d : take (length o - k) (drop k o) ≡ drop k o = take_all (length o - k) (drop k o) (omega (arith, length-drop k o)) in
+      let z : drop (length o - k) (drop k o) ≡ [] = drop_of_length-le (drop k o) (omega (arith, length-drop k o)) in
+      let w : o' ≡ laid 0 v (drop k o) = l.left ∙ ap (laid 0 v) d in
+      record {
+        end = omega (arith, l.end, ap length d, length-drop k o);
+        left = rw (z, append-nil, w) (laid_at k v o h);
+      }
+
+  -- The same value so often.
+  laid_same : (t : ℕ) (y : A) (o : List A) → replicate (min (length o) t) y ++ drop (min (length o) t) o ≡ laid 0 (replicate t y) o
+  unfolding laid
+  laid_same t y [] = let z : min 0 t ≡ 0 = omega arith in rw z
+  laid_same zero y (x ∷ o) = let z : min (suc (length o)) 0 ≡ 0 = omega arith in rw z
+  laid_same (suc t) y (x ∷ o) = let z : min (suc (length o)) (suc t) ≡ suc (min (length o) t) = omega arith in rw z (ap (λ (r : List A). y ∷ r) (laid_same t y o))
+
+  pub lays_same : (o : List A) (t : ℕ) (y : A) {n : ℕ} → n ≡ min (length o) t → {f : List A} → f ≡ replicate (length (take n o)) y → Lays o 0 (replicate t y) n (f ++ drop n o)
+  lays_same o t y {n} e {f} g =
+      let h : length (take n o) ≡ min (length o) t = omega (arith, e, length-take n o) in
+      record {
+        end = omega (arith, e, length-replicate t y);
+        left = rw (g, h, e) (laid_same t y o);
+      }
+
+  -- Values laid over as many others are all that is there.
+  laid_all : (v o : List A) → length v ≡ length o → laid 0 v o ≡ v
+  unfolding laid
+  laid_all [] [] e = refl
+  laid_all [] (x ∷ o) e = absurd (omega arith)
+  laid_all (y ∷ v) [] e = absurd (omega arith)
+  laid_all (y ∷ v) (x ∷ o) e = ap (λ (t : List A). y ∷ t) (laid_all v o (omega arith))
+
+  pub laid_over : {o v : List A} {r : ℕ} {o' : List A} → length v ≡ length o → Lays o 0 v r o' → o' ≡ v
+  laid_over {o} {v} e l = l.left ∙ laid_all v o e
+
   -- One value stored.
   pub lays_one : (o : List A) (k : ℕ) (y : A) → k < length o → Lays o k (y ∷ []) (k + 1) (set o k y)
   lays_one o k y h = record { end = omega arith; left = laid_one k y o }
@@ -94,19 +139,3 @@ module _ {A : Type 0} where
 
   pub still_none : {o₀ : List A} {s : ℕ} {v₀ o : List A} {k : ℕ} → Still o₀ s v₀ o k [] → Lays o₀ s v₀ k o
   still_none {o₀} {s} {v₀} {o} {k} b = record { end = omega (arith, b.end, b.fits); left = sym (b.left ∙ laid_none k o) }
-
-  pub still_full : {o₀ : List A} {s : ℕ} {v₀ o : List A} {k : ℕ} {v : List A} → Still o₀ s v₀ o k v → length o ≤ k → Lays o₀ s v₀ k o
-  still_full {o₀} {s} {v₀} {o} {k} {v} b h = record { end = omega (arith, b.end, b.fits, h); left = sym (b.left ∙ laid_full k v o h) }
-
-  -- The same value so many times: one of them stored, and none left.
-  pub still_cell : {o₀ : List A} {s : ℕ} {v₀ o : List A} {k : ℕ} (n : ℕ) (y : A) → Still o₀ s v₀ o k (replicate n y) → 0 < n → k < length o → Still o₀ s v₀ (set o k y) (k + 1) (replicate (n - 1) y)
-  still_cell {o = o} {k} n y b h g =
-      let e : n ≡ suc (n - 1) = omega arith in
-      let r : replicate n y ≡ (y ∷ []) ++ replicate (n - 1) y = ap (λ m. replicate m y) e in
-      still_more (rw r at b) (lays_one o k y g)
-
-  pub still_over : {o₀ : List A} {s : ℕ} {v₀ o : List A} {k : ℕ} (n : ℕ) (y : A) → Still o₀ s v₀ o k (replicate n y) → n ≤ 0 → Lays o₀ s v₀ k o
-  still_over n y b h =
-      let e : n ≡ 0 = omega arith in
-      let r : replicate n y ≡ [] = ap (λ m. replicate m y) e in
-      still_none (rw r at b)

@@ -1,6 +1,6 @@
 -- Code points behind one another, and the cells of a text.
 use mathlib.Core.Path.{◌≡◌, refl, sym, ◌∙◌}
-use mathlib.Core.Bool.{true, false}
+use mathlib.Core.Bool.{Bool, true, false, cond}
 use mathlib.Core.List.{List, [], ◌++◌}
 use Prim.Native.Nat.{ℕ, zero, suc, ◌+◌, ◌≤◌, ◌<◌}
 use borrow.Author.Tests.{lt-ltb, le-ltb}
@@ -74,12 +74,16 @@ module _ (l : List ℕ) {o₀ : List ℕ} (from i : ℕ) {s : ℕ} {o : List ℕ
       let e = points_last l f i h g in
       (still_none (still_more (rw e.0 at c) w), sym (n ∙ e.1))
 
-module _ {l o₀ : List ℕ} {from s : ℕ} {o : List ℕ} {k i : ℕ} (b : Reading l o₀ from s o k i) (h : i < length l) {r e : ℕ} {o' : List ℕ} (w : Lays o k (code_point l i) r o' × (e ≡ code_point_end l i)) where
-  pub reading_more : is 0x2c (cell_at l e) ≡ true → Reading l o₀ from s o' r (e + 1)
-  reading_more g = let d = w.1 in rw d (more l from i h w.0 b.fuel b.enough b.cells b.end (rw (← d) g))
+-- A code point is read, and a comma is passed if it comes next.
+module _ {l o₀ : List ℕ} {from s : ℕ} {o : List ℕ} {k i : ℕ} (b : Reading l o₀ from s o k i) (h : i < length l) {r e : ℕ} {o' : List ℕ} (w : Lays o k (code_point l i) r o') (d : e ≡ code_point_end l i) {t : Bool} (q : t ≡ is 0x2c (cell_at l e)) {j : ℕ} (n : j ≡ cond t (e + 1) e) where
+  pub reading_more : t ≡ true → Reading l o₀ from s o' r j
+  reading_more g = rw (n, g, d) (more l from i h w b.fuel b.enough b.cells b.end (rw (← d) (sym q ∙ g)))
 
-  pub reading_last : is 0x2c (cell_at l e) ≡ false → Points l o₀ from s o' r e
-  reading_last g = let d = w.1 in rw d (last l from i h w.0 b.fuel b.enough b.cells b.end (rw (← d) g))
+  pub reading_last : t ≡ false → Points l o₀ from s o' r j
+  reading_last g = rw (n, g, d) (last l from i h w b.fuel b.enough b.cells b.end (rw (← d) (sym q ∙ g)))
+
+  pub reading_up : t ≡ true → i < j
+  reading_up g = rw (n, g, d) (omega (arith, point_up l i))
 
 module _ (l : List ℕ) (i : ℕ) {o : List ℕ} {s : ℕ} where
   pub cells_none : is 0x2d (cell_at l i) ≡ true → s ≤ length o → {n : ℕ} → n ≡ next_field l i → Lays o s (cells_at l i) s o × (n ≡ cells_end l i)

@@ -2,4 +2,5 @@ pub mod Lines
 pub mod Fields
 pub mod Laid
 pub mod Entries
+pub mod Calls
 pub mod After

@@ -3,112 +3,56 @@
 
 #![tactic(auto)]
 
-mod answers; // answers.rt: answers printed
+mod answers; // answers.rt: what is printed of an answer
+mod held; // held.rt: a scope with its rows
 mod lent; // lent.rt: lists and scopes that no case gives
 
-use cases::{calls, fields, lines};
-use scope::lent::Lent;
-use scope::scope::{Scope, Slot};
-use search::keys;
+use crate::answers::Answer;
+use crate::held::Held;
+use cases::fields::Fields;
+use scope::scope::Scope;
 use std::io;
+use std::io::{BufRead, BufReader};
 
-// Whether a text is a name; a broken scope has none.
-fn has(
-    s: Scope,
-    slots: &[[u32; Slot::NUMBERS]],
-    names: &[[u32; Scope::MAX_NAME]],
-    text: &[u32],
-) -> bool {
-    let lent = Lent {
-        counts: s,
-        slots,
-        names,
-    };
-    match lent.checked() {
-        Ok(scope) => keys::is_name(scope, text),
-        Err(_) => false,
+// A question: the text stands before its words.
+fn asked(rt: &impl Print, line: &str, held: &Held) -> io::Result<()> {
+    let mut text = [0u32; Scope::MAX_NAME];
+    let mut fields = Fields::new(line.as_bytes());
+    let n = fields.cells(&mut text);
+    rt.write_all(fields.rest())?;
+    if held.has(&text[..n]) {
+        return println!(rt; ": a name");
     }
+    println!(rt; ": no name")
 }
 
-// A question: the text stands behind the mark and a space, and its words behind the text.
-fn asked(
-    rt: &impl Print,
-    line: &[u8],
-    s: Scope,
-    slots: &[[u32; Slot::NUMBERS]],
-    names: &[[u32; Scope::MAX_NAME]],
-) -> io::Result<()> {
-    let mut text = [0u32; Scope::MAX_NAME];
-    let t = fields::read_cells(line, 2, &mut text, 0);
-    let end = t.end;
-    let next = t.next;
-    if line.len() < next {
+// A call, and what it is printed as.
+fn called(rt: &impl Print, line: &str, held: &mut Held) -> io::Result<()> {
+    let mut fields = Fields::new(line.as_bytes());
+    let answer = Answer(held.call(&mut fields));
+    let words = fields.rest();
+    if words.is_empty() {
         return Ok(());
     }
-    answers::name(rt, &line[next..], has(s, slots, names, &text[..end]))
+    rt.write_all(words)?;
+    println!(rt; ": {answer}")
 }
 
-// A call; what it gives back is the scope after it.
-fn made(
-    rt: &impl Print,
-    line: &[u8],
-    s: Scope,
-    slots: &mut [[u32; Slot::NUMBERS]],
-    names: &mut [[u32; Scope::MAX_NAME]],
-) -> io::Result<Scope> {
-    let c = calls::call(line, 0, s, slots, names);
-    let answer = c.answer;
-    let next = c.next;
-    if next < line.len() {
-        answers::answer(rt, &line[next..], answer)?;
+fn step(rt: &impl Print, line: &str, held: &mut Held) -> io::Result<()> {
+    if let Some(heading) = line.strip_prefix("= ") {
+        *held = Held::opened();
+        return println!(rt; "{heading}");
     }
-    Ok(c.scope)
+    if let Some(question) = line.strip_prefix("? ") {
+        return asked(rt, question, held);
+    }
+    called(rt, line, held)
 }
 
-// A line; what it gives back is the scope behind it.
-fn step(
-    rt: &impl Print,
-    line: &[u8],
-    s: Scope,
-    slots: &mut [[u32; Slot::NUMBERS]],
-    names: &mut [[u32; Scope::MAX_NAME]],
-) -> io::Result<Scope> {
-    if fields::is(line, 0, b'=') {
-        answers::heading(rt, line)?;
-        return Ok(Scope::opened());
-    }
-    if fields::is(line, 0, b'?') {
-        asked(rt, line, s, slots, names)?;
-        return Ok(s);
-    }
-    made(rt, line, s, slots, names)
-}
-
-fn all(
-    rt: &impl Print,
-    bytes: &[u8],
-    slots: &mut [[u32; Slot::NUMBERS]],
-    names: &mut [[u32; Scope::MAX_NAME]],
-) -> io::Result<()> {
-    let mut s = Scope::opened();
-    let mut from: usize = 0;
-    while from < bytes.len() {
-        let end = lines::line_end(bytes, from);
-        s = step(rt, &bytes[from..end], s, slots, names)?;
-        if end == bytes.len() {
-            return Ok(());
-        }
-        from = end + 1;
-    }
-    Ok(())
-}
-
-// There is room for the lines of `stdin`; of a longer input the rest is not read.
 fn main(rt: HostRuntime) -> io::Result<()> {
-    let mut bytes = [0u8; 32768];
-    let mut slots = [[0u32; Slot::NUMBERS]; Scope::ROWS];
-    let mut names = [[0u32; Scope::MAX_NAME]; Scope::ROWS];
-    let n = say::read_full(&rt, &mut bytes)?;
-    all(&rt, &bytes[..n], &mut slots, &mut names)?;
+    let mut held = Held::opened();
+    for line in BufReader::new(rt.alloc(), rt.reader())?.lines(rt.alloc()) {
+        step(&rt, line?.as_str(), &mut held)?;
+    }
     lent::tried(&rt)
 }

@@ -1,40 +1,19 @@
 -- Each turn reads one entry: a row, and the cells of its name.
-use native.Mathlib.Omega.{arith}
-use Rattle.cases.proofs.EntryLaws.{listing_none, listing_read, listing_end}
+use Rattle.std.proofs.Common.{◌≡◌, ◌+◌, ◌-◌, arith, ap, ◌∙◌}
+use Rattle.cases.specs.Entries.{cell}
+use Rattle.cases.proofs.LaidLaws.{lays_rest}
+use Rattle.cases.proofs.EntryLaws.{listing_read, listing_end}
 use Rattle.cases.proofs.calls.read_list.Goals as goal
 
-pub loop-n-init : goal.loop-n-init
-loop-n-init c = listing_none
-
-pub read_decimal-depth-requires : goal.read_decimal-depth-requires
-read_decimal-depth-requires c = tt
-
-pub read_decimal-kind-requires : goal.read_decimal-kind-requires
-read_decimal-kind-requires c = tt
-
-pub read_cells-name-requires : goal.read_cells-name-requires
-read_cells-name-requires c = omega (arith, c.loop-n.invariant.named.fits)
-
-pub cell-requires : goal.cell-requires
-cell-requires c = tt
-
-pub overflow_sub-name : goal.overflow_sub-name
-overflow_sub-name c = omega (arith, c.loop-n.invariant.named.fits)
-
-pub cell-requires-in-loop-n : goal.cell-requires-in-loop-n
-cell-requires-in-loop-n c = tt
-
-pub bounds-rows-n : goal.bounds-rows-n
-bounds-rows-n c = omega (arith, c.loop-n.invariant.rowed.same)
-
-pub loop-n-preserved : goal.loop-n-preserved
-loop-n-preserved c = listing_read c.loop-n.invariant (omega arith) (omega (arith, c.loop-n.invariant.rowed.same)) c.read_decimal-depth.ensures c.read_decimal-kind.ensures c.read_cells-name.ensures c.cell.ensures c.cell-in-loop-n.ensures
-
-pub shape_of-rows : goal.shape_of-rows
-shape_of-rows c = c.loop-n.invariant.rowed.same
-
-pub shape_of-cells : goal.shape_of-cells
-shape_of-cells c = c.loop-n.invariant.named.same
+pub loop-row-preserved : goal.loop-row-preserved
+loop-row-preserved c =
+    let v = c.loop-row.invariant in
+    let d = rw v.0 at c.decimal-depth.ensures in
+    let t = rw d.1 at c.decimal-kind.ensures in
+    let n = rw t.1 at c.cells-n.ensures in
+    let w = lays_rest c.loop-row.cells c.loop-row.k v.1.named.fits n.0 in
+    let z : c.cells-n.result ≡ (c.loop-row.k + c.cells-n.result) - c.loop-row.k = omega arith in
+    (n.1, listing_read v.1 (omega arith) (omega arith) (d.0, d.2) (t.0, t.2) (w, n.2) c.cell.ensures (c.cell-in-loop-row.ensures ∙ ap cell z))
 
 pub returns : goal.returns
-returns c = listing_end c.loop-n.invariant (omega arith)
+returns c = let v = c.loop-row.invariant in let z = listing_end v.1 (omega arith) in (z.0, z.1, v.0, z.2)

@@ -1,28 +1,22 @@
--- What is left falls; the rows stay as many, and each call leaves a scope that is not broken and is the model's.
-use native.Mathlib.Omega.{arith}
-use mathlib.Core.Path.{refl, sym, ◌∙◌}
+-- The rows stay as many, and each call leaves a scope that is not broken and is the model's.
+use Rattle.std.proofs.Common.{◌≡◌, ◌+◌, ◌-◌, sym, ◌∙◌, arith}
 use Rattle.cases.proofs.AfterLaws.{calls_more, calls_over}
 use Rattle.cases.proofs.calls.scope_of.Goals as goal
 
-pub read_decimal-count-requires : goal.read_decimal-count-requires
-read_decimal-count-requires c = tt
-
-pub opened-s-requires : goal.opened-s-requires
-opened-s-requires c = tt
-
-pub loop-left-init : goal.loop-left-init
-loop-left-init c = (refl, refl, λ h g. (c.opened-s.ensures.1 _ _ h g, rw (c.read_decimal-count.ensures.0, c.read_decimal-count.ensures.1, c.opened-s.ensures.0 c.args.slots.now c.args.names.now)))
-
-pub loop-left-preserved : goal.loop-left-preserved
-loop-left-preserved c =
-    let k = c.call-c.ensures in (
-      omega arith,
-      omega arith,
-      λ h g. (k.whole (c.loop-left.invariant.2 h g).0, (c.loop-left.invariant.2 h g).1 ∙ calls_more _ _ _ _ (omega arith) k.next (k.model (c.loop-left.invariant.2 h g).0)),
+pub loop-preserved : goal.loop-preserved
+loop-preserved c =
+    let v = c.loop.invariant in
+    let k = c.call.ensures in
+    let n = rw v.0 at k.next in
+    let z : c.decimal-end.result - (c.loop.counter + 1) ≡ (c.decimal-end.result - c.loop.counter) - 1 = omega arith in (
+      n.0,
+      λ h g.
+          let m = rw v.0 at (k.model (v.1 h g).0) in
+          rw (c.after-s.ensures, z) (k.whole (v.1 h g).0, (v.1 h g).1 ∙ calls_more _ _ _ _ (omega arith) n.1 m),
     )
 
 pub returns : goal.returns
 returns c = record {
-  whole = λ h g. (c.loop-left.invariant.2 h g).0;
-  model = λ h g. sym ((c.loop-left.invariant.2 h g).1 ∙ calls_over _ _ _ _ (omega arith));
+  whole = λ h g. (c.loop.invariant.1 h g).0;
+  model = λ h g. sym ((c.loop.invariant.1 h g).1 ∙ calls_over _ _ _ _ (omega arith));
 }

@@ -1,17 +1,10 @@
--- Each byte that is passed stands in the line.
-use native.Mathlib.Omega.{arith}
-use Rattle.reading.proofs.Passed.{along_none}
-use Rattle.cases.proofs.LineLaws.{line_more, line_stop, line_over}
+-- A line goes up to the first line end.
+use Rattle.std.proofs.Common.{arith}
+use Rattle.cases.proofs.PlaceLaws.{line_found}
 use Rattle.cases.proofs.lines.line_end.Goals as goal
 
-pub loop-i-init : goal.loop-i-init
-loop-i-init c = along_none (omega arith)
-
-pub returns-then-bytes-i-eq10 : goal.returns-then-bytes-i-eq10
-returns-then-bytes-i-eq10 c = line_stop c.loop-i.invariant (omega arith) (omega arith)
-
-pub loop-i-preserved : goal.loop-i-preserved
-loop-i-preserved c = line_more c.loop-i.invariant (omega arith) c.if-bytes-i-eq10.false
+pub overflow_add-result : goal.overflow_add-result
+overflow_add-result c = omega (arith, line_found c.args.bytes.now c.args.from c.requires c.place_of.ensures c.unwrap_or.ensures)
 
 pub returns : goal.returns
-returns c = line_over c.loop-i.invariant (omega arith)
+returns c = (line_found _ _ c.requires c.place_of.ensures c.unwrap_or.ensures).0
