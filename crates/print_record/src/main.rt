@@ -5,11 +5,14 @@
 
 use printing::print;
 use std::io;
+use std::io::Read;
 
 fn main(rt: HostRuntime) -> io::Result<()> {
-    let mut input = [0u8; print::MAX_INPUT + 1];
-    let n = say::read_full(&rt, &mut input)?;
+    let mut input = Vec::new(rt.alloc());
+    rt.reader()
+        .take(print::MAX_INPUT as u64 + 1)
+        .read_to_end(&mut input)?;
     let mut out = [0u8; print::MAX_PRINTED];
-    let k = print::print(&input[..n], &mut out);
-    rt.write_all(&out[..k])
+    let n = print::print(&input, &mut out);
+    rt.write_all(&out[..n])
 }

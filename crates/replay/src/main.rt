@@ -3,85 +3,63 @@
 
 #![tactic(auto)]
 
-mod record; // record.rt: a record printed
+mod record; // record.rt: a record in the text form
 
-use cases::{calls, fields, lines};
-use runs::call::Made;
-use runs::item;
+use crate::record::Record;
+use cases::calls;
+use cases::fields::Fields;
+use lexer::flags::Flags;
+use runs::call::Counts;
 use runs::item::Item;
+use runs::room::Room;
+use scope::lent::Lent;
 use scope::scope::{Scope, Slot};
 use std::io;
+use std::io::{BufRead, BufReader};
 use text::utf8::Text;
 
-// The record of a text, behind its case.
-fn print_run(
-    rt: &impl Print,
-    text: &[u32],
-    start_type: u32,
-    flags: u32,
-    s: Scope,
-    slots: &[[u32; Slot::NUMBERS]],
-    names: &[[u32; Scope::MAX_NAME]],
-) -> io::Result<()> {
-    let mut rows = [[0u32; Item::NUMBERS]; Text::MAX_CHARS + 2];
-    let mut store = [0u32; Text::MAX_CHARS];
-    let mut scratch = [0u32; 2 * Text::MAX_CHARS];
-    let made = runs::run::run(
-        text,
-        start_type,
-        item::bit_flags(flags),
-        s,
-        slots,
-        names,
-        &mut rows,
-        &mut store,
-        &mut scratch,
-    );
-    match made {
-        Made::Record(count, cells) => record::print(rt, &rows, count, &store, cells),
-        Made::Refused(n) => record::refused(rt, n),
-    }
-}
-
-// A case and its record; the case is a line without its end.
-fn print_case(rt: &impl Print, line: &[u8]) -> io::Result<()> {
+// A case and its record.
+fn print_case(rt: &impl Print, line: &str) -> io::Result<()> {
     let mut text = [0u32; Text::MAX_CHARS];
     let mut slots = [[0u32; Slot::NUMBERS]; Scope::ROWS];
     let mut names = [[0u32; Scope::MAX_NAME]; Scope::ROWS];
-    let name = fields::next_field(line, 0);
-    let start_type = fields::read_decimal(line, name);
-    let flags = fields::read_decimal(line, start_type.next);
-    let cells = fields::read_cells(line, flags.next, &mut text, 0);
-    let s = calls::scope_of(line, cells.next, &mut slots, &mut names);
-    let n = cells.end;
-    say::words(rt, line)?;
-    print_run(
-        rt,
-        &text[..n],
-        start_type.value,
-        flags.value,
-        s,
-        &slots,
-        &names,
-    )
+    let mut fields = Fields::new(line.as_bytes());
+    fields.next_field();
+    let start_type = fields.decimal();
+    let flags = Flags::from_bits(fields.decimal());
+    let n = fields.cells(&mut text);
+    let counts = calls::scope_of(fields, &mut slots, &mut names);
+    let mut rows = [[0u32; Item::NUMBERS]; Text::MAX_CHARS + 2];
+    let mut store = [0u32; Text::MAX_CHARS];
+    let mut scratch = [0u32; 2 * Text::MAX_CHARS];
+    let mut room = Room {
+        rows: &mut rows,
+        store: &mut store,
+        scratch: &mut scratch,
+    };
+    let scope = Lent {
+        counts,
+        slots: &slots,
+        names: &names,
+    };
+    match runs::run::run(&text[..n], start_type, flags, scope, &mut room) {
+        Ok(Counts { items, cells }) => {
+            let record = Record {
+                rows: &rows[..items],
+                store: &store[..cells],
+            };
+            println!(rt; "{line} {record}")
+        }
+        Err(refusal) => {
+            let n = u32::from(refusal);
+            println!(rt; "{line} refused with {n}")
+        }
+    }
 }
 
-fn print_cases(rt: &impl Print, bytes: &[u8]) -> io::Result<()> {
-    let mut from: usize = 0;
-    while from < bytes.len() {
-        let end = lines::line_end(bytes, from);
-        print_case(rt, &bytes[from..end])?;
-        if end == bytes.len() {
-            return Ok(());
-        }
-        from = end + 1;
+fn main(rt: HostRuntime) -> io::Result<()> {
+    for line in BufReader::new(rt.alloc(), rt.reader())?.lines(rt.alloc()) {
+        print_case(&rt, line?.as_str())?;
     }
     Ok(())
-}
-
-// There is room for the stored cases; of a longer input the rest is not read.
-fn main(rt: HostRuntime) -> io::Result<()> {
-    let mut bytes = [0u8; 262144];
-    let n = say::read_full(&rt, &mut bytes)?;
-    print_cases(&rt, &bytes[..n])
 }

@@ -1,126 +1,95 @@
-// A record printed in the text form, behind its case: how the Rust's run ended, the rows, the value store.
-ghost use Rattle.std.specs.Prelude.{◌≡◌, ◌<◌, length};
+// A record in the text form: how the Rust's run ended, the rows, the value store.
+ghost use Rattle.std.specs.Prelude.{◌≡◌, ◌==◌, ◌<◌, ◌≤◌, length};
+ghost use Rattle.std.specs.List.{take_while};
 ghost use Rattle.replay.specs.Printed as spec;
 
 use runs::item::Item;
-use std::io;
+use std::fmt;
 use text::refusal::Refusal;
 
-fn wide(n: u32) -> usize {
-    n as usize
+// The rows and the value store of a record.
+#[derive(Clone, Copy)]
+pub struct Record<'a> {
+    pub rows: &'a [[u32; Item::NUMBERS]],
+    pub store: &'a [u32],
 }
 
 // 1 where the Rust panicked in the last item, which 01 refuses with 7 or 8.
-fn panicked(last: [u32; Item::NUMBERS]) -> usize
+fn panicked(last: [u32; Item::NUMBERS]) -> u32
     ensures { result ≡ spec.panicked last }
 {
-    if last[Item::REFUSED] == 0 {
-        return 0;
-    }
-    match last[Item::NUMBER] {
-        Refusal::END_AT_SECOND_HALF | Refusal::STARTS_WITH_IN => 1,
-        _ => 0,
-    }
+    let refused = last[Item::REFUSED] != 0;
+    let number = last[Item::NUMBER];
+    u32::from(
+        refused
+            && (number == u32::from(Refusal::EndAtSecondHalf)
+                || number == u32::from(Refusal::StartsWithIn)),
+    )
 }
 
-fn rows(rt: &impl Print, all: &[[u32; Item::NUMBERS]]) -> io::Result<()> {
-    let mut i: usize = 0;
-    while i < all.len() {
-        say::numbers(rt, &all[i])?;
-        i += 1;
-    }
-    Ok(())
-}
-
-// How many cells from a place on are alike.
-fn alike(cells: &[u32], from: usize) -> usize
-    requires { from < length cells.now }
-    ensures { result ≡ spec.alike cells.now from }
+// How many cells at the front are this one.
+fn alike(cell: u32, cells: &[u32]) -> usize
+    ensures { result ≡ length (take_while (λ x. x == cell) cells.now) }
 {
-    let c = cells[from];
-    let mut i = from;
-    while i < cells.len() {
-        if cells[i] != c {
-            return i - from;
-        }
-        i += 1;
-    }
-    i - from
-}
-
-// Four or more cells that are alike are one code point and their number; answers how many cells are printed at once.
-fn piece(cells: &[u32], i: usize) -> usize
-    requires { i < length cells.now }
-    ensures { result ≡ spec.piece_at cells.now i }
-{
-    let n = alike(cells, i);
-    if n < 4 {
-        return 1;
-    }
-    n
+    cells.iter().take_while(|c| **c == cell).count()
 }
 
 // So many cells that are this one: it alone, or it and their number.
-fn print_piece(rt: &impl Print, cell: u32, n: usize) -> io::Result<()> {
-    say::hexadecimal(rt, cell)?;
-    if n < 4 {
-        return Ok(());
-    }
-    say::words(rt, b"*")?;
-    say::hexadecimal(rt, (n % 65_536) as u32)
+#[derive(Clone, Copy)]
+struct Piece {
+    cell: u32,
+    times: usize,
 }
 
-// The value store, `-` if it is empty.
-fn store(rt: &impl Print, cells: &[u32]) -> io::Result<()> {
-    say::words(rt, b" ")?;
-    if cells.len() == 0 {
-        say::words(rt, b"-")?;
+impl Piece {
+    // What is printed first of some cells: four or more that are alike together, or one.
+    fn first_of(cells: &[u32]) -> Piece
+        requires { 0 < length cells.now }
+        ensures { (result.times ≡ spec.piece_at cells.now 0) × (0 < result.times) × (result.times ≤ length cells.now) }
+    {
+        let cell = cells[0];
+        let n = alike(cell, cells);
+        let times = if n < 4 { 1 } else { n };
+        Piece { cell, times }
     }
-    let mut i: usize = 0;
-    while i < cells.len() {
-        if 0 < i {
-            say::words(rt, b",")?;
+}
+
+impl fmt::Display for Piece {
+    fn fmt<W: fmt::Write>(&self, f: &mut fmt::Formatter<W>) -> fmt::Result {
+        let Piece { cell, times } = *self;
+        if times < 4 {
+            return write!(f, "{cell:X}");
         }
-        let n = piece(cells, i);
-        print_piece(rt, cells[i], n)?;
-        i += n;
+        write!(f, "{cell:X}*{times:X}")
     }
-    say::words(rt, b"\n")
 }
 
-fn whole(rt: &impl Print, all: &[[u32; Item::NUMBERS]], cells: &[u32]) -> io::Result<()> {
-    let n = all.len();
-    if n == 0 {
-        return Ok(());
+impl fmt::Display for Record<'_> {
+    fn fmt<W: fmt::Write>(&self, f: &mut fmt::Formatter<W>) -> fmt::Result {
+        let Some(last) = self.rows.last() else {
+            return Ok(());
+        };
+        let end = panicked(*last);
+        let count = self.rows.len();
+        write!(f, "{end} {count}")?;
+        for row in self.rows {
+            for n in row {
+                write!(f, " {n}")?;
+            }
+        }
+        if self.store.is_empty() {
+            return write!(f, " -");
+        }
+        write!(f, " ")?;
+        let mut rest = self.store;
+        while !rest.is_empty() {
+            let piece = Piece::first_of(rest);
+            write!(f, "{piece}")?;
+            rest = &rest[piece.times..];
+            if !rest.is_empty() {
+                write!(f, ",")?;
+            }
+        }
+        Ok(())
     }
-    say::words(rt, b" ")?;
-    say::decimal(rt, panicked(all[n - 1]))?;
-    say::words(rt, b" ")?;
-    say::decimal(rt, n)?;
-    rows(rt, all)?;
-    store(rt, cells)
-}
-
-// The record of so many rows and store cells.
-pub fn print(
-    rt: &impl Print,
-    all: &[[u32; Item::NUMBERS]],
-    count: usize,
-    cells: &[u32],
-    n: usize,
-) -> io::Result<()> {
-    if all.len() < count {
-        return Ok(());
-    }
-    if cells.len() < n {
-        return Ok(());
-    }
-    whole(rt, &all[..count], &cells[..n])
-}
-
-// A refused run; no case has one.
-pub fn refused(rt: &impl Print, n: u32) -> io::Result<()> {
-    say::words(rt, b" refused with ")?;
-    say::decimal(rt, wide(n))?;
-    say::words(rt, b"\n")
 }

@@ -13,3 +13,4 @@ pub mod CallLaws
 pub mod RanLaws
 pub mod RunCallLaws
 pub mod BehindLaws
+pub mod WithinLaws

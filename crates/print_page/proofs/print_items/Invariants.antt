@@ -1,9 +1,0 @@
--- The index stays below the page's end.
-use Prim.Native.Nat.{◌-◌, ◌≤◌}
-use Rattle.print_page.proofs.print_items.Given as goal
-
-abbrev pub invariant-loop-i : goal.invariant-loop-i
-invariant-loop-i g l = l.i ≤ 32
-
-abbrev pub decreases-loop-i : goal.decreases-loop-i
-decreases-loop-i g l = 32 - l.i
