@@ -1,4 +1,6 @@
 -- A prefix that holds more than the longest key has cells is no name, nor is any longer one.
+use Rattle.std.specs.Prelude.{Option, None, Some}
+use Rattle.std.specs.declared.ops.Range.{Range}
 use mathlib.Core.Path.{◌≡◌, refl, sym, ap, ◌∙◌, subst}
 use mathlib.Core.Bool.{Bool, true, false}
 use mathlib.Core.List.{List}
@@ -11,16 +13,14 @@ use Rattle.names.specs.Flatten.{flatten}
 use Rattle.names.specs.Ink.{ink, inks}
 use Rattle.names.proofs.InkLaws.{ink-flatten, ink-length}
 use Rattle.lexer.specs.Naming.{texts}
-use Rattle.lexer.specs.declared.parts.Next.{Next}
-use Rattle.lexer.specs.declared.parts.Next.TheVariants.{At, Over}
 use Rattle.lexer.specs.Places.{next_of, Placed, leads, end_of, prefix}
 use Rattle.lexer.specs.Fit.{fit, Bounded}
 use Rattle.lexer.proofs.PartLaws.{prefix-at}
 
 -- A longer prefix holds no less.
-inks-leads : (t : List ℕ) (m n : ℕ) (x : Next) → ((e : ℕ) → inks (texts (prefix t m e)) ≤ inks (texts (prefix t n e))) → inks (texts (leads t x (prefix t m (end_of x)))) ≤ inks (texts (leads t x (prefix t n (end_of x))))
-inks-leads t m n (At s e) f = omega (arith, f e)
-inks-leads t m n (Over e) f = omega arith
+inks-leads : (t : List ℕ) (m n : ℕ) (x : Option (Range ℕ)) → ((e : ℕ) → inks (texts (prefix t m e)) ≤ inks (texts (prefix t n e))) → inks (texts (leads t x (prefix t m (end_of x)))) ≤ inks (texts (leads t x (prefix t n (end_of x))))
+inks-leads t m n None f = omega arith
+inks-leads t m n (Some p) f = omega (arith, f p.end)
 
 inks_up : (t : List ℕ) (m n i : ℕ) → m ≤ n → inks (texts (prefix t m i)) ≤ inks (texts (prefix t n i))
 unfolding prefix
@@ -55,23 +55,24 @@ bounding_none t from n h = record { upto = omega arith; within = h; size = omega
 pub bounded_all : (t : List ℕ) (from n cap : ℕ) → Bounded t from n cap n
 bounded_all t from n cap = record { less = omega arith; so = λ found keys. refl }
 
-pub step_on : {t : List ℕ} {from n i m total : ℕ} → Bounding t from n i m total → {p : Next} → (p ≡ next_of t i) × Placed t i p → {s e : ℕ} → p ≡ At s e → (i ≤ s) × (s < e) × (e ≤ length t)
-step_on {t} {i = i} g q r = subst (Placed t i) r q.1
+module _ {t : List ℕ} {from n i m total : ℕ} (g : Bounding t from n i m total) {x : Option (Range ℕ)} (q : (x ≡ next_of t i) × Placed t i x) {p : Range ℕ} (r : x ≡ Some p) where
+  pub step_on : (i ≤ p.start) × (p.start < p.end) × (p.end ≤ length t)
+  step_on = subst (Placed t i) r q.1
 
-module _ {t : List ℕ} {from n i m total : ℕ} (g : Bounding t from n i m total) (l : m < n) {p : Next} (q : (p ≡ next_of t i) × Placed t i p) {s e : ℕ} (r : p ≡ At s e) {w : ℕ} (u : (w ≡ ink (part t s e)) × (w ≤ e - s)) where
-  more : (k : ℕ) → inks (texts (prefix t (m + suc k) from)) ≡ total + w + inks (texts (prefix t k e))
-  more k = g.so (suc k) ∙ ap (λ ps. total + inks (texts ps)) (prefix-at t i k s e (sym r ∙ q.0)) ∙ omega (arith, u.0)
+  module _ (l : m < n) {w : ℕ} (u : (w ≡ ink (part t p.start p.end)) × (w ≤ p.end - p.start)) where
+    more : (k : ℕ) → inks (texts (prefix t (m + suc k) from)) ≡ total + w + inks (texts (prefix t k p.end))
+    more k = g.so (suc k) ∙ ap (λ ps. total + inks (texts ps)) (prefix-at t i k p (sym r ∙ q.0)) ∙ omega (arith, u.0)
 
-  pub bounding_over : {cap : ℕ} → cap < total + w → Bounded t from n cap m
-  bounding_over {cap} h =
-      let z : m + 1 ≡ suc m = omega arith in
-      let o : inks (texts (prefix t (suc m) from)) ≡ total + w + inks (texts (prefix t 0 e)) = rw z at (more 0) in
-      record { less = omega arith; so = λ found keys. fit_bound found cap keys t from m (omega (arith, o, h)) n (omega arith) }
+    pub bounding_over : {cap : ℕ} → cap < total + w → Bounded t from n cap m
+    bounding_over {cap} h =
+        let z : m + 1 ≡ suc m = omega arith in
+        let o : inks (texts (prefix t (suc m) from)) ≡ total + w + inks (texts (prefix t 0 p.end)) = rw z at (more 0) in
+        record { less = omega arith; so = λ found keys. fit_bound found cap keys t from m (omega (arith, o, h)) n (omega arith) }
 
-  pub bounding_more : Bounding t from n e (m + 1) (total + w)
-  bounding_more = let k = step_on g q r in let a = k.0 in let b = k.1 in let z = g.size in let y = u.1 in record {
-    upto = omega arith;
-    within = k.2;
-    size = omega arith;
-    so = λ k. let z : m + 1 + k ≡ m + suc k = omega arith in rw z (more k);
-  }
+    pub bounding_more : Bounding t from n p.end (m + 1) (total + w)
+    bounding_more = let k = step_on in let a = k.0 in let b = k.1 in let z = g.size in let y = u.1 in record {
+      upto = omega arith;
+      within = k.2;
+      size = omega arith;
+      so = λ k. let z : m + 1 + k ≡ m + suc k = omega arith in rw z (more k);
+    }

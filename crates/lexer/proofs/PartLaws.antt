@@ -1,4 +1,6 @@
 -- A loop that writes parts has written some of them, and what is left is the same spelling from where it stands.
+use Rattle.std.specs.Prelude.{Option, None, Some}
+use Rattle.std.specs.declared.ops.Range.{Range}
 use mathlib.Core.Path.{◌≡◌, refl, sym, ap, ◌∙◌, subst}
 use mathlib.Core.Bool.{Bool, true, false, ◌&&◌}
 use mathlib.Core.List.{List, [], ◌∷◌, ◌++◌, map, append-nil, append_assoc}
@@ -16,49 +18,54 @@ use Rattle.names.specs.Trim.{trim}
 use Rattle.names.specs.Name.{is_symbol_text}
 use Rattle.names.specs.Spelling.{Trimmed, tied, laid, spelled}
 use Rattle.lexer.specs.Naming.{texts}
-use Rattle.lexer.specs.declared.parts.Next.{Next}
-use Rattle.lexer.specs.declared.parts.Next.TheVariants.{At, Over}
-use Rattle.lexer.specs.Places.{here_of, start_of, next_of, between, Placed, prefix, spelling}
+use Rattle.lexer.specs.Places.{places, here_of, start_of, next_of, between, Placed, prefix, spelling}
 
 module _ (t : List ℕ) (i : ℕ) {a : Bool} (p : a ≡ holds is_name_part (cell_at t i)) where
-  pub here_word : a ≡ true → {j : ℕ} → Passed is_name_part t i j → (At i j ≡ here_of t i) × Placed t i (At i j)
+  pub here_word : a ≡ true → {j : ℕ} → Passed is_name_part t i j → (Some (places i j) ≡ here_of t i) × Placed t i (Some (places i j))
   unfolding here_of
   here_word f d = (rw (sym p ∙ f, d.end), (omega arith, passed_more d (sym p ∙ f), d.within))
 
-  pub start_word : a ≡ true → i ≤ length t → (i ≡ start_of t i) × (i ≤ i) × (i ≤ length t)
-  unfolding start_of
-  start_word f l = (rw (sym p ∙ f), omega arith, l)
-
   module _ (f : a ≡ false) {b : Bool} (q : b ≡ holds is_symbol (cell_at t i)) where
-    pub here_symbol : b ≡ true → (At i (i + 1) ≡ here_of t i) × Placed t i (At i (i + 1))
+    pub here_symbol : b ≡ true → (Some (places i (i + 1)) ≡ here_of t i) × Placed t i (Some (places i (i + 1)))
     unfolding here_of
     here_symbol g = let l = cell_there is_symbol t i (sym q ∙ g) in (rw (sym p ∙ f, sym q ∙ g), (omega arith, omega arith, omega arith))
 
-    pub here_none : b ≡ false → i ≤ length t → (Over i ≡ here_of t i) × Placed t i (Over i)
+    pub here_none : b ≡ false → (None ≡ here_of t i) × Placed t i None
     unfolding here_of
-    here_none g l = (rw (sym p ∙ f, sym q ∙ g), (omega arith, l))
+    here_none g = (rw (sym p ∙ f, sym q ∙ g), tt)
 
-    pub start-symbol : b ≡ true → i ≤ length t → (i ≡ start_of t i) × (i ≤ i) × (i ≤ length t)
+-- The next part must start right here where a word or a symbol does, and else behind the whitespace.
+module _ (t : List ℕ) (i : ℕ) where
+  abbrev Starts : ℕ → Type 0
+  Starts j = (j ≡ start_of t i) × (i ≤ j) × (j ≤ length t)
+
+  module _ {a : Bool} (p : a ≡ holds is_name_part (cell_at t i)) where
+    pub start_word : a ≡ true → i ≤ length t → Starts i
     unfolding start_of
-    start-symbol g l = (rw (sym p ∙ f, sym q ∙ g), omega arith, l)
+    start_word f l = (rw (sym p ∙ f), omega arith, l)
 
-    pub start_space : b ≡ false → {j : ℕ} → Passed is_whitespace t i j → (j ≡ start_of t i) × (i ≤ j) × (j ≤ length t)
-    unfolding start_of
-    start_space g d = (rw (sym p ∙ f, sym q ∙ g, d.end), d.from, d.within)
+    module _ (f : a ≡ false) {b : Bool} (q : b ≡ holds is_symbol (cell_at t i)) where
+      pub start-symbol : b ≡ true → i ≤ length t → Starts i
+      unfolding start_of
+      start-symbol g l = (rw (sym p ∙ f, sym q ∙ g), omega arith, l)
 
-pub next_start : (t : List ℕ) (i j : ℕ) → (j ≡ start_of t i) × (i ≤ j) × (j ≤ length t) → (r : Next) → (r ≡ here_of t j) × Placed t j r → (r ≡ next_of t i) × Placed t i r
-next_start t i j s (At a z) h = (h.0 ∙ ap (here_of t) s.0, (let n = s.1 in let m = h.1.0 in omega arith, h.1.1, h.1.2))
-next_start t i j s (Over z) h = (h.0 ∙ ap (here_of t) s.0, (let n = s.1 in let m = h.1.0 in omega arith, h.1.1))
+      pub start_space : b ≡ false → {j : ℕ} → Passed is_whitespace t i j → Starts j
+      unfolding start_of
+      start_space g d = (rw (sym p ∙ f, sym q ∙ g, d.end), d.from, d.within)
+
+pub next_start : (t : List ℕ) (i j : ℕ) → (j ≡ start_of t i) × (i ≤ j) × (j ≤ length t) → (r : Option (Range ℕ)) → (r ≡ here_of t j) × Placed t j r → (r ≡ next_of t i) × Placed t i r
+next_start t i j s None h = (h.0 ∙ ap (here_of t) s.0, tt)
+next_start t i j s (Some p) h = (h.0 ∙ ap (here_of t) s.0, (let n = s.1 in let m = h.1.0 in omega arith, h.1.1, h.1.2))
 
 -- parts, one after another
-pub prefix-at : (t : List ℕ) (i n s e : ℕ) → At s e ≡ next_of t i → prefix t (suc n) i ≡ between t s e ∷ prefix t n e
+pub prefix-at : (t : List ℕ) (i n : ℕ) (p : Range ℕ) → Some p ≡ next_of t i → prefix t (suc n) i ≡ between t p.start p.end ∷ prefix t n p.end
 unfolding prefix
-prefix-at t i n s e q = rw (← q)
+prefix-at t i n p q = rw (← q)
 
-pub prefix_over : (t : List ℕ) (i n e : ℕ) → Over e ≡ next_of t i → prefix t n i ≡ []
+pub prefix_over : (t : List ℕ) (i n : ℕ) → None ≡ next_of t i → prefix t n i ≡ []
 unfolding prefix
-prefix_over t i zero e q = refl
-prefix_over t i (suc n) e q = rw (← q)
+prefix_over t i zero q = refl
+prefix_over t i (suc n) q = rw (← q)
 
 spelled_none : (new b : Bool) → spelled new b [] ≡ []
 unfolding spelled
@@ -103,29 +110,29 @@ module _ {t o : List ℕ} {new : Bool} {n from i m k : ℕ} {b : Bool} {o' : Lis
   unfolding prefix
   spelling-end l = let z : n - m ≡ 0 = omega arith in ended (rw z (spelled_none new b))
 
-  module _ {p : Next} (q : (p ≡ next_of t i) × Placed t i p) where
-    pub spelling_over : {e : ℕ} → p ≡ Over e → Wrote o (spelling new (prefix t n from)) k o'
-    spelling_over {e} r = ended (rw (prefix_over t i (n - m) e (sym r ∙ q.0)) (spelled_none new b))
+  module _ {x : Option (Range ℕ)} (q : (x ≡ next_of t i) × Placed t i x) where
+    pub spelling_over : x ≡ None → Wrote o (spelling new (prefix t n from)) k o'
+    spelling_over r = ended (rw (prefix_over t i (n - m) (sym r ∙ q.0)) (spelled_none new b))
 
-    pub spelling_on : {s e : ℕ} → p ≡ At s e → (i ≤ s) × (s < e) × (e ≤ length t)
+    pub spelling_on : {p : Range ℕ} → x ≡ Some p → (i ≤ p.start) × (p.start < p.end) × (p.end ≤ length t)
     spelling_on r = subst (Placed t i) r q.1
 
-    module _ (l : m < n) (room : length (spelling new (prefix t n from)) ≤ length o) {s e a z : ℕ} (r : p ≡ At s e) (tr : Trimmed t s e a z) {c : Bool} (pc : c ≡ tied new b (part t a z)) where
-      step : Tail t new b (n - m) i ≡ laid c (part t a z) ++ Tail t new (new && is_symbol_text (part t a z)) (n - (m + 1)) e
+    module _ (l : m < n) (room : length (spelling new (prefix t n from)) ≤ length o) {p : Range ℕ} {a z : ℕ} (r : x ≡ Some p) (tr : Trimmed t p.start p.end a z) {c : Bool} (pc : c ≡ tied new b (part t a z)) where
+      step : Tail t new b (n - m) i ≡ laid c (part t a z) ++ Tail t new (new && is_symbol_text (part t a z)) (n - (m + 1)) p.end
       step =
           let y : n - m ≡ suc (n - (m + 1)) = omega arith in
-          rw (y, prefix-at t i (n - (m + 1)) s e (sym r ∙ q.0), tr.cells, pc) (spelled_more new b (part t a z) _)
+          rw (y, prefix-at t i (n - (m + 1)) p (sym r ∙ q.0), tr.cells, pc) (spelled_more new b (part t a z) _)
 
-      total : g.written ++ laid c (part t a z) ++ Tail t new (new && is_symbol_text (part t a z)) (n - (m + 1)) e ≡ spelling new (prefix t n from)
+      total : g.written ++ laid c (part t a z) ++ Tail t new (new && is_symbol_text (part t a z)) (n - (m + 1)) p.end ≡ spelling new (prefix t n from)
       total = append_assoc g.written _ _ ∙ ap (g.written ++◌) (sym step) ∙ g.rest
 
       fits : length (g.written ++ laid c (part t a z)) ≤ length o
-      fits = omega (arith, ap length total, length-append (g.written ++ laid c (part t a z)) (Tail t new (new && is_symbol_text (part t a z)) (n - (m + 1)) e))
+      fits = omega (arith, ap length total, length-append (g.written ++ laid c (part t a z)) (Tail t new (new && is_symbol_text (part t a z)) (n - (m + 1)) p.end))
 
       pub spelling-room : k + length (laid c (part t a z)) ≤ length o'
       spelling-room = omega (arith, fits, length-append g.written (laid c (part t a z)), g.wrote.size, g.same)
 
-      pub spelling_more : {k' : ℕ} {o'' : List ℕ} → Further o' k (laid c (part t a z)) k' o'' → {b' : Bool} → b' ≡ new && is_symbol_text (part t a z) → Spelling t o new n from e (m + 1) k' b' o''
+      pub spelling_more : {k' : ℕ} {o'' : List ℕ} → Further o' k (laid c (part t a z)) k' o'' → {b' : Bool} → b' ≡ new && is_symbol_text (part t a z) → Spelling t o new n from p.end (m + 1) k' b' o''
       spelling_more f {b'} pb = let w = f.so o g.written g.wrote in record {
         written = g.written ++ laid c (part t a z);
         wrote = w;

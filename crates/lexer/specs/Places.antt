@@ -1,5 +1,6 @@
 -- The parts of a name by their places, as a function of the text.
-use Rattle.std.specs.Prelude.{Bool, true, cond, List, [], ◌∷◌, map, ℕ, zero, suc, ◌+◌, ◌≤◌, ◌<◌, length, ◌≡◌}
+use Rattle.std.specs.Prelude.{Bool, true, cond, List, [], ◌∷◌, map, ℕ, zero, suc, ◌+◌, ◌≤◌, ◌<◌, length, ◌≡◌, Option, None, Some}
+use Rattle.std.specs.declared.ops.Range.{Range}
 use Rattle.reading.specs.Goes.{Sees}
 use Rattle.reading.specs.Look.{cell_at}
 use Rattle.reading.specs.Cells.{holds}
@@ -11,36 +12,38 @@ use Rattle.lexer.specs.Parts as parts
 use Rattle.lexer.specs.Parts.{Part, walk}
 use Rattle.lexer.specs.Token.{fuel}
 use Rattle.lexer.specs.Naming.{texts}
-use Rattle.lexer.specs.declared.parts.Next.{Next}
-use Rattle.lexer.specs.declared.parts.Next.TheVariants.{At, Over}
 
--- The part that starts at i.
-unfoldable pub here_of : List ℕ → ℕ → Next
-here_of t i = cond (holds is_name_part (cell_at t i)) (At i (past is_name_part t i)) (cond (holds is_symbol (cell_at t i)) (At i (i + 1)) (Over i))
+-- The places from s up to, not including, e.
+abbrev pub places : ℕ → ℕ → Range ℕ
+places s e = record { start = s; end = e }
+
+-- The part that starts at i, if one does.
+unfoldable pub here_of : List ℕ → ℕ → Option (Range ℕ)
+here_of t i = cond (holds is_name_part (cell_at t i)) (Some (places i (past is_name_part t i))) (cond (holds is_symbol (cell_at t i)) (Some (places i (i + 1))) None)
 
 -- Where the next part must start, if there is one.
 unfoldable pub start_of : List ℕ → ℕ → ℕ
 start_of t i = cond (holds is_name_part (cell_at t i)) i (cond (holds is_symbol (cell_at t i)) i (past is_whitespace t i))
 
-abbrev pub next_of : List ℕ → ℕ → Next
+abbrev pub next_of : List ℕ → ℕ → Option (Range ℕ)
 next_of t i = here_of t (start_of t i)
 
-abbrev pub end_of : Next → ℕ
-end_of (At s e) = e
-end_of (Over e) = e
+abbrev pub end_of : Option (Range ℕ) → ℕ
+end_of None = 0
+end_of (Some p) = p.end
 
 -- The part that stands from s up to, not including, e.
 abbrev pub between : List ℕ → ℕ → ℕ → Part
 between t s e = parts.part (part t s e) e
 
-abbrev pub leads : List ℕ → Next → List Part → List Part
-leads t (At s e) ps = between t s e ∷ ps
-leads t (Over e) ps = []
+abbrev pub leads : List ℕ → Option (Range ℕ) → List Part → List Part
+leads t None ps = []
+leads t (Some p) ps = between t p.start p.end ∷ ps
 
 -- It lies between i and the end.
-abbrev pub Placed : List ℕ → ℕ → Next → Type 0
-Placed t i (At s e) = (i ≤ s) × (s < e) × (e ≤ length t)
-Placed t i (Over e) = (i ≤ e) × (e ≤ length t)
+abbrev pub Placed : List ℕ → ℕ → Option (Range ℕ) → Type 0
+Placed t i None = Unit
+Placed t i (Some p) = (i ≤ p.start) × (p.start < p.end) × (p.end ≤ length t)
 
 -- The first n parts from i on, or all if they are fewer.
 unfoldable pub prefix : List ℕ → ℕ → ℕ → List Part

@@ -9,23 +9,16 @@ pub fn bound(rest: &[u32], from: usize, n: usize, cap: usize) -> usize
     ensures { Bounded rest.now from n cap result }
 {
     let mut i = from;
-    let mut m: usize = 0;
-    let mut total: usize = 0;
-    while m < n {
-        let p = crate::parts::next_part(rest, i);
-        match p {
-            crate::parts::Next::At(s, e) => {
-                total += names::ink::ink_of(rest, s, e);
-                if cap < total {
-                    return m;
-                }
-                i = e;
-            }
-            crate::parts::Next::Over(_) => {
-                return n;
-            }
+    let mut total = 0;
+    for m in 0..n {
+        let Some(part) = crate::parts::next_part(rest, i) else {
+            return n;
+        };
+        total += names::ink::ink_of(rest, part.start, part.end);
+        if cap < total {
+            return m;
         }
-        m += 1;
+        i = part.end;
     }
     n
 }

@@ -5,28 +5,21 @@ ghost use Rattle.text.specs.Limits.{max_chars};
 ghost use Rattle.lexer.specs.Places.{here_of, start_of, next_of, Placed, Counted, prefix, spelling};
 
 use crate::look;
+use std::ops::Range;
 use text::classes::{NamePart, Symbol, Whitespace};
 
-// At: where a part starts and ends. Over: where the walk ends.
-#[derive(Clone, Copy)]
-pub enum Next {
-    At(usize, usize),
-    Over(usize),
-}
-
 // The part that starts at i, if one does.
-fn part_at(rest: &[u32], i: usize) -> Next
+fn part_at(rest: &[u32], i: usize) -> Option<Range<usize>>
     requires { i ≤ length rest.now }
     ensures { (result ≡ here_of rest.now i) × Placed rest.now i result }
 {
     if look::holds_at::<NamePart>(rest, i) {
-        let j = look::end_of::<NamePart>(rest, i);
-        return Next::At(i, j);
+        return Some(i..look::end_of::<NamePart>(rest, i));
     }
     if look::holds_at::<Symbol>(rest, i) {
-        return Next::At(i, i + 1);
+        return Some(i..i + 1);
     }
-    Next::Over(i)
+    None
 }
 
 // Where the next part must start, if there is one: a word is tried before whitespace, as some characters are both.
@@ -34,23 +27,19 @@ fn part_start(rest: &[u32], i: usize) -> usize
     requires { i ≤ length rest.now }
     ensures { (result ≡ start_of rest.now i) × (i ≤ result) × (result ≤ length rest.now) }
 {
-    if look::holds_at::<NamePart>(rest, i) {
-        return i;
-    }
-    if look::holds_at::<Symbol>(rest, i) {
+    if look::holds_at::<NamePart>(rest, i) || look::holds_at::<Symbol>(rest, i) {
         return i;
     }
     look::end_of::<Whitespace>(rest, i)
 }
 
-// The next part of a name from i on.
+// The next part of a name from i on, if there is one.
 // Ruled out, among others: U+1680 right behind a symbol skipped as whitespace; two symbols taken for one part.
-pub fn next_part(rest: &[u32], i: usize) -> Next
+pub fn next_part(rest: &[u32], i: usize) -> Option<Range<usize>>
     requires { i ≤ length rest.now }
     ensures { (result ≡ next_of rest.now i) × Placed rest.now i result }
 {
-    let j = part_start(rest, i);
-    part_at(rest, j)
+    part_at(rest, part_start(rest, i))
 }
 
 // How many parts a name has, and where the walk over them ends.
@@ -67,18 +56,14 @@ pub fn count_parts(rest: &[u32], from: usize) -> Walked
     ensures { Counted rest.now from result.parts result.end }
 {
     let mut i = from;
-    let mut n: usize = 0;
-    loop {
-        let p = next_part(rest, i);
-        match p {
-            Next::At(_, e) => {
-                i = e;
-            }
-            Next::Over(e) => {
-                return Walked { parts: n, end: e };
-            }
-        }
-        n += 1;
+    let mut parts = 0;
+    while let Some(part) = next_part(rest, i) {
+        i = part.end;
+        parts += 1;
+    }
+    Walked {
+        parts,
+        end: part_start(rest, i),
     }
 }
 
@@ -89,26 +74,17 @@ pub fn write_parts(rest: &[u32], from: usize, n: usize, new: bool, out: &mut [u3
     ensures { Wrote out.old (spelling new (prefix rest.now n from)) result out.new }
 {
     let mut i = from;
-    let mut m: usize = 0;
-    let mut k: usize = 0;
+    let mut written = 0;
     let mut tight = true;
-    while m < n {
-        let p = next_part(rest, i);
-        match p {
-            Next::At(s, e) => {
-                let t = names::trim::trim(rest, s, e);
-                let a = t.from;
-                let z = t.end;
-                let c = names::name::is_tied(rest, a, z, new, tight);
-                k = names::name::add_part(rest, a, z, c, out, k);
-                tight = names::name::ends_tight(rest, a, z, new);
-                i = e;
-            }
-            Next::Over(_) => {
-                return k;
-            }
-        }
-        m += 1;
+    for _ in 0..n {
+        let Some(part) = next_part(rest, i) else {
+            return written;
+        };
+        let t = names::trim::trim(rest, part.start, part.end);
+        let tied = names::name::is_tied(rest, t.from, t.end, new, tight);
+        written = names::name::add_part(rest, t.from, t.end, tied, out, written);
+        tight = names::name::ends_tight(rest, t.from, t.end, new);
+        i = part.end;
     }
-    k
+    written
 }

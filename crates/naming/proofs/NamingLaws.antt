@@ -23,8 +23,7 @@ use Rattle.lexer.specs.Parts.{Part}
 use Rattle.lexer.specs.TokenType
 use Rattle.lexer.specs.Token.{fuel}
 use Rattle.lexer.specs.Naming.{texts, name_of, end_of, starts_with, before_in, fits, longest, is_property, is_found, all_parts, by_prefix, cut_name, read_name}
-use Rattle.lexer.specs.declared.parts.Next.{Next}
-use Rattle.lexer.specs.declared.parts.Next.TheVariants.{At, Over}
+use Rattle.std.specs.declared.ops.Range.{Range}
 use Rattle.lexer.specs.declared.token.Outcome.{Outcome}
 use Rattle.lexer.specs.Places.{next_of, leads, prefix, Counted}
 use Rattle.lexer.specs.Fit.{fit, Longest}
@@ -117,9 +116,9 @@ module _ (f : Flags) (is_name : List ℕ → Bool) (t : List ℕ) (from n end : 
     in_later h l c = ap (λ x. by_in_of f is_name t from n end (cond x (before_in (prefix t n from)) None)) e ∙ ap (by_in_of f is_name t from n end) (b.cut h) ∙ some_in (prefix t m from) (omega arith)
 
 -- The first part alone decides on `item`.
-starts_leads : (t x : List ℕ) (p : Next) (ps qs : List Part) → starts_with x (leads t p ps) ≡ starts_with x (leads t p qs)
-starts_leads t x (At s e) ps qs = refl
-starts_leads t x (Over e) ps qs = refl
+starts_leads : (t x : List ℕ) (p : Option (Range ℕ)) (ps qs : List Part) → starts_with x (leads t p ps) ≡ starts_with x (leads t p qs)
+starts_leads t x None ps qs = refl
+starts_leads t x (Some p) ps qs = refl
 
 starts_one : (t x : List ℕ) (n i : ℕ) → 0 < n → starts_with x (prefix t n i) ≡ starts_with x (prefix t 1 i)
 unfolding prefix

@@ -32,8 +32,8 @@ fn next_is(rest: &[u32], i: usize, word: &[u8]) -> bool
 {
     let p = lexer::parts::next_part(rest, i);
     match p {
-        lexer::parts::Next::At(s, e) => names::fixed::is(&rest[s..e], word),
-        lexer::parts::Next::Over(_) => false,
+        Some(part) => names::fixed::is(&rest[part.start..part.end], word),
+        None => false,
     }
 }
 
@@ -47,13 +47,13 @@ fn before_in(rest: &[u32], from: usize, n: usize) -> usize
     while m < n {
         let p = lexer::parts::next_part(rest, i);
         match p {
-            lexer::parts::Next::At(s, e) => {
-                if names::fixed::is(&rest[s..e], b"in") {
+            Some(part) => {
+                if names::fixed::is(&rest[part.start..part.end], b"in") {
                     return m;
                 }
-                i = e;
+                i = part.end;
             }
-            lexer::parts::Next::Over(_) => {
+            None => {
                 return n;
             }
         }
@@ -72,10 +72,10 @@ fn end_of(rest: &[u32], from: usize, m: usize) -> usize
     while k < m {
         let p = lexer::parts::next_part(rest, i);
         match p {
-            lexer::parts::Next::At(_, e) => {
-                i = e;
+            Some(part) => {
+                i = part.end;
             }
-            lexer::parts::Next::Over(_) => {
+            None => {
                 return i;
             }
         }

@@ -1,10 +1,6 @@
 -- The loop has added up what the first m parts hold; the part that passes the cap ends it.
-use Prim.Native.Nat.{◌-◌}
 use Rattle.lexer.proofs.BoundLaws.{Bounding}
 use Rattle.lexer.proofs.bound.bound.Given as goal
 
 abbrev pub invariant-loop-m : goal.invariant-loop-m
 invariant-loop-m l = Bounding l.rest l.from l.n l.i l.m l.total
-
-abbrev pub decreases-loop-m : goal.decreases-loop-m
-decreases-loop-m l = l.n - l.m

@@ -1,37 +1,19 @@
 -- The loop has written the parts before i, and the spelling of the rest goes on from there.
-use Rattle.lexer.proofs.PartLaws.{spelling_none, spelling_on, spelling-room, spelling_more, spelling_over, spelling-end}
-use native.Mathlib.Omega.{arith}
+use Rattle.std.proofs.Common.{arith}
+use Rattle.lexer.proofs.PartLaws.{spelling_on, spelling-room, spelling_more, spelling_over, spelling-end}
 use Rattle.lexer.proofs.parts.write_parts.Goals as goal
 
-pub loop-m-init : goal.loop-m-init
-loop-m-init c = spelling_none _ _ _ _ _ (omega arith)
+pub returns-in_default : goal.returns-in_default
+returns-in_default c = spelling_over c.loop.invariant c.next_part.ensures c.in_default.is
 
-pub trim-t-requires : goal.trim-t-requires
-trim-t-requires c = let l = spelling_on c.loop-m.invariant c.next_part-p.ensures c.in-At.is in omega arith
+pub add_part-written-requires : goal.add_part-written-requires
+add_part-written-requires c =
+    let g = c.loop.invariant in
+    let l = spelling_on g c.next_part.ensures c.in-Some.is in
+    (omega arith, omega arith, spelling-room g c.next_part.ensures (omega arith) c.requires.1 c.in-Some.is c.trim-t.ensures c.is_tied-tied.ensures)
 
-pub is_tied-c-requires : goal.is_tied-c-requires
-is_tied-c-requires c = let l = spelling_on c.loop-m.invariant c.next_part-p.ensures c.in-At.is in omega arith
-
-pub add_part-k-requires : goal.add_part-k-requires
-add_part-k-requires c = let g = c.loop-m.invariant in
-    let l = spelling_on g c.next_part-p.ensures c.in-At.is in
-    (omega arith, omega arith, spelling-room g c.next_part-p.ensures (omega arith) c.requires.1 c.in-At.is c.trim-t.ensures c.is_tied-c.ensures)
-
-pub ends_tight-tight-requires : goal.ends_tight-tight-requires
-ends_tight-tight-requires c = let l = spelling_on c.loop-m.invariant c.next_part-p.ensures c.in-At.is in
-    omega arith
-
-pub shape_of-out-in-Over : goal.shape_of-out-in-Over
-shape_of-out-in-Over c = c.loop-m.invariant.same
-
-pub returns-in-Over : goal.returns-in-Over
-returns-in-Over c = spelling_over c.loop-m.invariant c.next_part-p.ensures c.in-Over.is
-
-pub loop-m-preserved : goal.loop-m-preserved
-loop-m-preserved c = spelling_more c.loop-m.invariant c.next_part-p.ensures (omega arith) c.requires.1 c.in-At.is c.trim-t.ensures c.is_tied-c.ensures c.add_part-k.ensures c.ends_tight-tight.ensures
-
-pub shape_of-out : goal.shape_of-out
-shape_of-out c = c.loop-m.invariant.same
+pub loop-preserved : goal.loop-preserved
+loop-preserved c = spelling_more c.loop.invariant c.next_part.ensures (omega arith) c.requires.1 c.in-Some.is c.trim-t.ensures c.is_tied-tied.ensures c.add_part-written.ensures c.ends_tight-tight.ensures
 
 pub returns : goal.returns
-returns c = spelling-end c.loop-m.invariant (omega arith)
+returns c = spelling-end c.loop.invariant (omega arith)
