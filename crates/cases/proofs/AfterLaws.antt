@@ -5,6 +5,7 @@ use mathlib.Core.List.{List}
 use Prim.Native.Nat.{ℕ, suc, ◌-◌, ◌≤◌, ◌<◌}
 use native.Mathlib.Omega.{arith}
 use Rattle.std.specs.Prelude.{Ok, Err}
+use Rattle.std.specs.Result.{result_unwrap_or}
 use Rattle.scope.specs.declared.scope.Scope.{Scope}
 use Rattle.scope.specs.Entries.{ParsingScope}
 use Rattle.scope.specs.Calls.{Changed}
@@ -16,6 +17,10 @@ use Rattle.cases.specs.After.{after_call, after_change, call_end, after_call_at,
 pub kept_same : (a : Answer) (rows : List (List ℕ)) → Kept a rows rows
 kept_same (Ok s) rows = tt
 kept_same (Err e) rows = refl
+
+pub after_is : (a : Answer) (s : Scope) → result_unwrap_or a s ≡ after_call a s
+after_is (Ok next) s = refl
+after_is (Err e) s = refl
 
 pub still_whole : (a : Answer) (s : Scope) (ss ns ss' ns' : List (List ℕ)) → Kept a ss ss' → Kept a ns ns' → Whole a ss' ns' → is_broken (lent s ss ns) ≡ false → is_broken (lent (after_call a s) ss' ns') ≡ false
 still_whole (Ok next) s ss ns ss' ns' k l w h = w
