@@ -7,6 +7,7 @@ use crate::answer::Answer;
 use crate::{answer, state};
 use runs::call;
 use runs::item::Item;
+use scope::lent::Lent;
 use scope::scope::{Scope, Slot};
 use text::refusal::Refusal;
 use tokens::call::Lexer;
@@ -66,8 +67,12 @@ pub extern "C" fn feel_next_token(
 {
     match ready(lexer, answer) {
         Ok(l) => {
-            let s = state::scope_of(scope);
-            let c = tokens::call::next_token(l, text, s, slots, names, out, scratch);
+            let lent = Lent {
+                counts: state::scope_of(scope),
+                slots,
+                names,
+            };
+            let c = tokens::call::next_token(l, text, lent, out, scratch);
             state::put_lexer(lexer, c.next);
             let item = Item::new(c.read, c.place, c.next.flags, 0);
             answer::number(put_item(item, answer))

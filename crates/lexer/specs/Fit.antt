@@ -1,9 +1,6 @@
 -- The longest prefix of a name that is found, by its number of parts.
 use Rattle.std.specs.Prelude.{◌≡◌, Bool, true, false, cond, List, ℕ, zero, suc, ◌*◌, ◌≤◌, ◌<◌, length}
 use Rattle.reading.specs.Slices.{zeros}
-use Rattle.scope.specs.Capped.{Capped}
-use Rattle.scope.specs.Keys.{is_name}
-use Rattle.scope.specs.Lent.{Lent, is_broken, scope_of}
 use Rattle.lexer.specs.Flags.{Flags}
 use Rattle.lexer.specs.Naming.{fits, is_property, is_found}
 use Rattle.lexer.specs.Places.{prefix}
@@ -32,9 +29,7 @@ pub record Longest (f : Flags) (is_name : List ℕ → Bool) (t : List ℕ) (fro
   pub most : parts ≡ fit (is_found f is_name) t from n
   pub one : 0 < parts → property ≡ fits (is_property f) (prefix t parts from)
 
--- What a search for names in the text t is lent: scratch that is clear and twice as long, a scope that is not broken, and a number that none of its names exceeds.
-pub record Searchable (t : List ℕ) (lent : Lent) (cap : ℕ) (scratch : List ℕ) : Type 0 where
+-- What a search for names in the text t is lent: scratch that is clear and twice as long.
+pub record Searchable (t : List ℕ) (scratch : List ℕ) : Type 0 where
   pub room : 2 * length t ≤ length scratch
-  pub whole : is_broken lent ≡ false
   pub clean : Clear scratch
-  pub capped : Capped (is_name (scope_of lent)) cap

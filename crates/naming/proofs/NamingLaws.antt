@@ -80,12 +80,9 @@ module _ {f : Flags} {is_name : List ℕ → Bool} {t : List ℕ} {from n m : �
         go zero z p = absurd (omega arith)
         go (suc k) z p = rw p
 
-    module _ (h : 0 < m) {g : Flags} {reach : ℕ} {o o' : List ℕ} {r : Outcome} (w : Gives (outcome (token TokenType.Name (name_of (prefix t m from))) (end_of (prefix t m from)) g) reach o r o') where
-      pub prefix_property : property ≡ true → g ≡ clear AfterDot f → Gives (by_prefix_of f is_name t from n end) reach o r o'
-      prefix_property e q = gives_as (prefix_some h) (gives_flags (q ∙ rw e) w)
-
-      pub prefix_name : property ≡ false → g ≡ f → Gives (by_prefix_of f is_name t from n end) reach o r o'
-      prefix_name e q = gives_as (prefix_some h) (gives_flags (q ∙ rw e) w)
+    pub prefix_found : 0 < m → {g : Flags} → g ≡ cond property (clear AfterDot f) f → {reach : ℕ} {o o' : List ℕ} {r : Outcome} → Gives (outcome (token TokenType.Name (name_of (prefix t m from))) (end_of (prefix t m from)) g) reach o r o'
+        → Gives (by_prefix_of f is_name t from n end) reach o r o'
+    prefix_found h q w = gives_as (prefix_some h) (gives_flags q w)
 
 -- A colon behind the parts.
 module _ (f : Flags) (is_name : List ℕ → Bool) (t : List ℕ) (from n end : ℕ) {b : Bool} (p : b ≡ is 0x3A (cell_at t end)) where

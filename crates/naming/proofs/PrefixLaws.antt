@@ -3,17 +3,16 @@ use Rattle.std.specs.Prelude.{Option, None, Some}
 use mathlib.Core.Path.{◌≡◌, refl, sym, ap, ◌∙◌, subst}
 use mathlib.Core.Bool.{Bool, true, false, cond, ◌&&◌, false≢true}
 use mathlib.Core.List.{List, [], ◌∷◌, ◌++◌, map}
-use Prim.Native.Nat.{ℕ, zero, suc, ◌+◌, ◌-◌, ◌*◌, ◌≤◌, ◌<◌}
-use native.Mathlib.Numerals.{add-one}
+use Prim.Native.Nat.{ℕ, zero, suc, ◌-◌, ◌*◌, ◌≤◌, ◌<◌}
 use native.Mathlib.Omega.{arith}
 use lib.Dec.{leb}
 use borrow.Author.Tests.{leb-true}
-use lib.ListN.{length, take, drop, set, length-append, length-set}
+use lib.ListN.{length, take, drop, replicate, length-append}
 use lib.Seq.{take-append_seam}
 use Rattle.reading.specs.Span.{part}
-use Rattle.reading.specs.Slices.{front, zeros, Wrote}
+use Rattle.reading.specs.Slices.{zeros, Wrote}
 use Rattle.reading.proofs.Test.{both, either, all_of}
-use Rattle.reading.proofs.Front.{front_snoc, drop-front}
+use Rattle.reading.proofs.Front.{drop-front}
 use Rattle.reading.proofs.Passed.{part_length}
 use Rattle.names.specs.Same.{same, member}
 use Rattle.names.specs.Trim.{trim}
@@ -36,26 +35,13 @@ pub length-zeros : (n : ℕ) → length (zeros n) ≡ n
 length-zeros zero = refl
 length-zeros (suc n) = ap suc (length-zeros n)
 
--- A loop that clears has set j cells to 0.
-pub record Clearing (o : List ℕ) (j : ℕ) (o' : List ℕ) : Type 0 where
-  pub same : length o' ≡ length o
-  pub left : o' ≡ front (zeros j) o
-
-pub clearing_none : (o : List ℕ) → Clearing o 0 o
-clearing_none o = record { same = refl; left = refl }
-
-zeros_snoc : (j : ℕ) → zeros j ++ 0 ∷ [] ≡ zeros (suc j)
-zeros_snoc zero = refl
-zeros_snoc (suc j) = ap (0 ∷◌) (zeros_snoc j)
-
-pub clearing_more : {o : List ℕ} {j : ℕ} {o' : List ℕ} → Clearing o j o' → j < length o → Clearing o (j + 1) (set o' j 0)
-clearing_more {o} {j} {o'} c h =
-    let z = length-zeros j in
-    let e : set (front (zeros j) o) j 0 ≡ front (zeros j ++ 0 ∷ []) o = subst (λ x. set (front (zeros j) o) x 0 ≡ front (zeros j ++ 0 ∷ []) o) z (front_snoc (zeros j) o 0 (omega arith)) in
-    record { same = length-set o' j 0 ∙ c.same; left = rw (c.left, add-one j) (e ∙ ap (λ v. front v o) (zeros_snoc j)) }
-
-pub clearing_all : {o : List ℕ} {j : ℕ} {o' : List ℕ} → Clearing o j o' → {n : ℕ} → j ≤ n → n ≤ j → Wrote o (zeros n) n o'
-clearing_all {j = j} c {n} h l = let e : j ≡ n = omega arith in record { size = sym (length-zeros n); left = rw e at c.left }
+-- A slice that was filled with 0.
+pub filled : {m n : ℕ} {o : List ℕ} → o ≡ replicate m 0 → m ≡ n → o ≡ zeros n
+filled {m} {n} e h = rw h at e ∙ go n
+  where
+    go : (n : ℕ) → replicate n 0 ≡ zeros n
+    go zero = refl
+    go (suc n) = ap (0 ∷◌) (go n)
 
 -- A clear slice whose front was used and cleared is as it was.
 zeros-drop : (k n : ℕ) → k ≤ n → zeros k ++ drop k (zeros n) ≡ zeros n
@@ -99,23 +85,10 @@ module _ (t : List ℕ) (from m : ℕ) {k j : ℕ} {o o₁ o₂ : List ℕ} (w :
       let e : take k o₁ ≡ spelling false (prefix t m from) = rw (w.left, w.size) (take-append_seam (spelling false (prefix t m from)) _) in
       subst (λ x. Asked g is_name x found property) (f.front ∙ ap flat (e ∙ spelled_by_space (map trim (texts (prefix t m from))))) p
 
-  pub restored : Clear o → k ≤ length o → {o₃ : List ℕ} → Wrote o₂ (zeros k) k o₃ → o₃ ≡ o
-  restored z h {o₃} c =
-      let n = length-zeros k in
+  pub restored : Clear o → k ≤ length o → {z : List ℕ} → z ≡ zeros k → z ++ drop k o₂ ≡ o
+  restored z h e =
       let d : drop k o₁ ≡ drop k o = rw (w.left, w.size) (drop-front (spelling false (prefix t m from)) o (length (spelling false (prefix t m from))) (omega arith)) in
-      let e : o₃ ≡ zeros k ++ drop k o₂ = rw n at c.left in
-      e ∙ ap (zeros k ++◌) (f.behind ∙ d ∙ ap (drop k) z.all) ∙ zeros-drop k (length o) h ∙ sym z.all
-
--- What is asked for.
-module _ (f : Flags) (is_name : List ℕ → Bool) (x : List ℕ) where
-  pub asked_property : f.after_dot ≡ true → {b : Bool} → b ≡ member x property_names → b ≡ true → Asked f is_name x true true
-  asked_property d p q = record { any = rw (d, ← p, q); one = rw (d, ← p, q) }
-
-  pub asked_other : f.after_dot ≡ true → {b : Bool} → b ≡ member x property_names → b ≡ false → {r : Bool} → r ≡ is_name x → Asked f is_name x r false
-  asked_other d p q e = record { any = rw (d, ← p, q) e; one = rw (d, ← p, q) }
-
-  pub asked-plain : f.after_dot ≡ false → {r : Bool} → r ≡ is_name x → Asked f is_name x r false
-  asked-plain d e = record { any = rw d e; one = rw d }
+      rw e (ap (zeros k ++◌) (f.behind ∙ d ∙ ap (drop k) z.all) ∙ zeros-drop k (length o) h ∙ sym z.all)
 
 -- From n parts down: those longer than m are not found.
 pub record Searching (f : Flags) (is_name : List ℕ → Bool) (t : List ℕ) (from n m : ℕ) (o o' : List ℕ) : Type 0 where
@@ -135,21 +108,21 @@ module _ {f : Flags} {is_name : List ℕ → Bool} {t : List ℕ} {from n m : �
   pub searching_clear : Clear o → Clear o'
   searching_clear c = rw s.left c
 
-  pub searching_end : m ≤ 0 → {b : Bool} → Longest f is_name t from n 0 b × (o' ≡ o)
+  pub searching_end : m ≤ 0 → {b : Bool} → Longest f is_name t from n 0 b
   unfolding fit
-  searching_end l = let e : m ≡ 0 = omega arith in (record { most = sym (s.goal ∙ rw e); one = λ h. absurd (omega arith) }, s.left)
+  searching_end l = let e : m ≡ 0 = omega arith in record { most = sym (s.goal ∙ rw e); one = λ h. absurd (omega arith) }
 
-  module _ (l : 0 < m) {b p : Bool} {o'' : List ℕ} (q : Asked f is_name (flatten (texts (prefix t m from))) b p × (o'' ≡ o')) where
+  module _ (l : 0 < m) {b p : Bool} (q : Asked f is_name (flatten (texts (prefix t m from))) b p) where
     one : fit (is_found f is_name) t from m ≡ cond b m (fit (is_found f is_name) t from (m - 1))
     one = let e : m ≡ suc (m - 1) = omega arith in
         subst (λ x. b ≡ is_found f is_name (flatten (texts (prefix t x from))) → fit (is_found f is_name) t from x ≡ cond b x (fit (is_found f is_name) t from (m - 1))) (sym e)
-        (λ y. fit_more (is_found f is_name) t from (m - 1) ∙ rw (← y)) q.0.any
+        (λ y. fit_more (is_found f is_name) t from (m - 1) ∙ rw (← y)) q.any
 
-    pub searching_found : b ≡ true → Longest f is_name t from n m p × (o'' ≡ o)
-    searching_found e = (record { most = sym (s.goal ∙ one ∙ rw e); one = λ _. q.0.one }, q.1 ∙ s.left)
+    pub searching_found : b ≡ true → Longest f is_name t from n m p
+    searching_found e = record { most = sym (s.goal ∙ one ∙ rw e); one = λ _. q.one }
 
-    pub searching_more : b ≡ false → Searching f is_name t from n (m - 1) o o''
-    searching_more e = let k = s.less in record { less = omega arith; left = q.1 ∙ s.left; same = ap length q.1 ∙ s.same; goal = s.goal ∙ one ∙ rw e }
+    pub searching_more : b ≡ false → {o'' : List ℕ} → o'' ≡ o' → Searching f is_name t from n (m - 1) o o''
+    searching_more e u = let k = s.less in record { less = omega arith; left = u ∙ s.left; same = ap length u ∙ s.same; goal = s.goal ∙ one ∙ rw e }
 
 -- A property has at most 14 cells.
 short_member : (n : ℕ) (ys : List (List ℕ)) → all_of (λ y. leb (length y) n) ys ≡ true → (x : List ℕ) → member x ys ≡ true → length x ≤ n

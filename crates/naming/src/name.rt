@@ -7,8 +7,7 @@ ghost use Rattle.text.specs.Classes.{is_name_part};
 ghost use Rattle.names.specs.Same.{member};
 ghost use Rattle.names.specs.Fixed.{type_names, temporal_names};
 ghost use Rattle.scope.specs.Keys.{is_name};
-ghost use Rattle.scope.specs.Lent.{scope_of};
-ghost use Rattle.scope.specs.Answers.{lent};
+ghost use Rattle.scope.specs.Sound.{sound_scope};
 ghost use Rattle.lexer.specs.Read.{token, outcome};
 ghost use Rattle.lexer.specs.Naming as spec;
 ghost use Rattle.lexer.specs.Token.{fuel};
@@ -18,10 +17,12 @@ ghost use Rattle.lexer.specs.Fit.{Searchable};
 ghost use Rattle.lexer.specs.Taken.{Gives, Takes};
 ghost use Rattle.naming.specs.Cut.{Before, Roomy, by_prefix_of, by_in_of, cut_in_of};
 
+use crate::prefix;
+use crate::prefix::Found;
 use lexer::flags::{Flag, Flags};
 use lexer::token::{Outcome, Read};
 use lexer::token_type::TokenType;
-use scope::scope::{Scope, Slot};
+use search::known::Known;
 use text::chars::Char;
 use text::refusal::Refusal;
 
@@ -187,26 +188,22 @@ fn by_prefix(
     n: usize,
     end: usize,
     flags: Flags,
-    s: Scope,
-    slots: &[[u32; Slot::NUMBERS]],
-    names: &[[u32; Scope::MAX_NAME]],
-    cap: usize,
+    known: Known,
     out: &mut [u32],
     scratch: &mut [u32],
 ) -> Outcome
-    requires { Counted rest.now from n end × Roomy rest.now from n (length out.old) × Searchable rest.now (lent s slots.now names.now) cap scratch.old }
-    ensures { Gives (by_prefix_of (flags_of flags) (is_name (scope_of (lent s slots.now names.now))) rest.now from n end) (end + 1) out.old result out.new
+    requires { Counted rest.now from n end × Roomy rest.now from n (length out.old) × Searchable rest.now scratch.old }
+    ensures { Gives (by_prefix_of (flags_of flags) (is_name (sound_scope known.entry.scope)) rest.now from n end) (end + 1) out.old result out.new
         × (scratch.new ≡ scratch.old) }
 {
-    let p = crate::prefix::longest_prefix(rest, from, n, flags, s, slots, names, cap, scratch);
-    let m = p.parts;
-    if m == 0 {
+    let Some(p) = prefix::longest_prefix(rest, from, n, flags, known, scratch) else {
         return all_parts(rest, from, n, end, flags, out);
-    }
-    if p.property {
-        return cut_at(rest, from, n, m, flags.clear(Flag::AfterDot), end + 1, out);
-    }
-    cut_at(rest, from, n, m, flags, end + 1, out)
+    };
+    let after = match p.found {
+        Found::Property => flags.clear(Flag::AfterDot),
+        Found::Name => flags,
+    };
+    cut_at(rest, from, n, p.parts, after, end + 1, out)
 }
 
 // All parts before a colon, else by the longest prefix.
@@ -216,23 +213,18 @@ fn by_colon(
     n: usize,
     end: usize,
     flags: Flags,
-    s: Scope,
-    slots: &[[u32; Slot::NUMBERS]],
-    names: &[[u32; Scope::MAX_NAME]],
-    cap: usize,
+    known: Known,
     out: &mut [u32],
     scratch: &mut [u32],
 ) -> Outcome
-    requires { Counted rest.now from n end × Roomy rest.now from n (length out.old) × Searchable rest.now (lent s slots.now names.now) cap scratch.old }
-    ensures { Gives (by_in_of (flags_of flags) (is_name (scope_of (lent s slots.now names.now))) rest.now from n end None) (end + 1) out.old result out.new
+    requires { Counted rest.now from n end × Roomy rest.now from n (length out.old) × Searchable rest.now scratch.old }
+    ensures { Gives (by_in_of (flags_of flags) (is_name (sound_scope known.entry.scope)) rest.now from n end None) (end + 1) out.old result out.new
         × (scratch.new ≡ scratch.old) }
 {
     if lexer::look::is_at(rest, end, Char::COLON) {
         return named(rest, from, n, n, end, TokenType::NAME, flags, end + 1, out);
     }
-    by_prefix(
-        rest, from, n, end, flags, s, slots, names, cap, out, scratch,
-    )
+    by_prefix(rest, from, n, end, flags, known, out, scratch)
 }
 
 // Under `till_in` the parts before `in`, of which there must be one.
@@ -242,27 +234,20 @@ fn by_in(
     n: usize,
     end: usize,
     flags: Flags,
-    s: Scope,
-    slots: &[[u32; Slot::NUMBERS]],
-    names: &[[u32; Scope::MAX_NAME]],
-    cap: usize,
+    known: Known,
     out: &mut [u32],
     scratch: &mut [u32],
 ) -> Outcome
-    requires { Counted rest.now from n end × Roomy rest.now from n (length out.old) × Searchable rest.now (lent s slots.now names.now) cap scratch.old }
-    ensures { Gives (cut_in_of (flags_of flags) (is_name (scope_of (lent s slots.now names.now))) rest.now from n end) (end + 1) out.old result out.new
+    requires { Counted rest.now from n end × Roomy rest.now from n (length out.old) × Searchable rest.now scratch.old }
+    ensures { Gives (cut_in_of (flags_of flags) (is_name (sound_scope known.entry.scope)) rest.now from n end) (end + 1) out.old result out.new
         × (scratch.new ≡ scratch.old) }
 {
     if !flags.till_in {
-        return by_colon(
-            rest, from, n, end, flags, s, slots, names, cap, out, scratch,
-        );
+        return by_colon(rest, from, n, end, flags, known, out, scratch);
     }
     let m = before_in(rest, from, n);
     if n <= m {
-        return by_colon(
-            rest, from, n, end, flags, s, slots, names, cap, out, scratch,
-        );
+        return by_colon(rest, from, n, end, flags, known, out, scratch);
     }
     if m == 0 {
         return Outcome {
@@ -281,15 +266,12 @@ pub fn read_name(
     rest: &[u32],
     i: usize,
     flags: Flags,
-    s: Scope,
-    slots: &[[u32; Slot::NUMBERS]],
-    names: &[[u32; Scope::MAX_NAME]],
-    cap: usize,
+    known: Known,
     out: &mut [u32],
     scratch: &mut [u32],
 ) -> Outcome
-    requires { (length rest.now ≤ max_chars) × (holds is_name_part (cell_at rest.now i) ≡ true) × (length rest.now ≤ length out.old) × Searchable rest.now (lent s slots.now names.now) cap scratch.old }
-    ensures { Takes rest.now 0 (spec.read_name fuel (flags_of flags) (is_name (scope_of (lent s slots.now names.now))) i) out.old result out.new
+    requires { (length rest.now ≤ max_chars) × (holds is_name_part (cell_at rest.now i) ≡ true) × (length rest.now ≤ length out.old) × Searchable rest.now scratch.old }
+    ensures { Takes rest.now 0 (spec.read_name fuel (flags_of flags) (is_name (sound_scope known.entry.scope)) i) out.old result out.new
         × (scratch.new ≡ scratch.old) }
 {
     let w = lexer::parts::count_parts(rest, i);
@@ -298,5 +280,5 @@ pub fn read_name(
     if next_is(rest, i, b"item") {
         return cut_at(rest, i, n, 1, flags, end + 1, out);
     }
-    by_in(rest, i, n, end, flags, s, slots, names, cap, out, scratch)
+    by_in(rest, i, n, end, flags, known, out, scratch)
 }

@@ -1,81 +1,33 @@
 // The longest prefix of a name that is found: under `after_dot` among the properties, then in the scope.
-ghost use Rattle.std.specs.Prelude.{◌≡◌, true, false, ◌*◌, ◌≤◌, length};
-ghost use Rattle.reading.specs.Slices.{Wrote, zeros};
+ghost use Rattle.std.specs.Prelude.{◌≡◌, true, ◌*◌, ◌≤◌, ◌<◌, length, IfSome, is_some};
 ghost use Rattle.scope.specs.Keys.{is_name};
-ghost use Rattle.scope.specs.Lent.{is_broken, scope_of};
-ghost use Rattle.scope.specs.Answers.{lent};
+ghost use Rattle.scope.specs.Sound.{sound_scope};
 ghost use Rattle.names.specs.Flatten.{flatten};
 ghost use Rattle.lexer.specs.Naming.{texts};
 ghost use Rattle.lexer.specs.Places.{prefix};
 ghost use Rattle.lexer.specs.FlagsOf.{flags_of};
 ghost use Rattle.lexer.specs.Fit.{Clear, Asked, Longest, Searchable};
+ghost use Rattle.naming.specs.Found.{is_property, parts_of, property_of};
 
 use lexer::flags::Flags;
 use scope::lent::Sound;
-use scope::scope::{Scope, Slot};
+use search::known::Known;
 
-// Sets the first n cells to 0.
-pub fn clear(buf: &mut [u32], n: usize)
-    requires { n ≤ length buf.old }
-    ensures { Wrote buf.old (zeros n) n buf.new }
-{
-    let mut j: usize = 0;
-    while j < n {
-        buf[j] = 0;
-        j += 1;
-    }
-}
-
-// Whether a text is found, and whether as a property.
+// What a text was found as.
 #[derive(Clone, Copy)]
-pub struct Finding {
-    pub found: bool,
-    pub property: bool,
+pub enum Found {
+    Property,
+    Name,
 }
 
 // Asks for a flattened text. A property counts as one even if the scope has its name.
-fn find(
-    text: &[u32],
-    flags: Flags,
-    s: Scope,
-    slots: &[[u32; Slot::NUMBERS]],
-    names: &[[u32; Scope::MAX_NAME]],
-) -> Finding
-    requires { is_broken (lent s slots.now names.now) ≡ false }
-    ensures { Asked (flags_of flags) (is_name (scope_of (lent s slots.now names.now))) text.now result.found result.property }
+fn find(text: &[u32], flags: Flags, scope: Sound) -> Option<Found>
+    ensures { Asked (flags_of flags) (is_name (sound_scope scope.entry)) text.now (is_some result) (is_property result) }
 {
-    if !flags.after_dot {
-        let found = search::keys::is_name(
-            Sound {
-                counts: s,
-                slots,
-                names,
-            },
-            text,
-        );
-        return Finding {
-            found,
-            property: false,
-        };
+    if flags.after_dot && names::fixed::is_built_in_property_name(text) {
+        return Some(Found::Property);
     }
-    if names::fixed::is_built_in_property_name(text) {
-        return Finding {
-            found: true,
-            property: true,
-        };
-    }
-    let found = search::keys::is_name(
-        Sound {
-            counts: s,
-            slots,
-            names,
-        },
-        text,
-    );
-    Finding {
-        found,
-        property: false,
-    }
+    search::keys::is_name(scope, text).then_some(Found::Name)
 }
 
 // Asks for the first m parts of the name at `from`, flattened in scratch.
@@ -84,27 +36,25 @@ fn find_parts(
     from: usize,
     m: usize,
     flags: Flags,
-    s: Scope,
-    slots: &[[u32; Slot::NUMBERS]],
-    names: &[[u32; Scope::MAX_NAME]],
+    scope: Sound,
     scratch: &mut [u32],
-) -> Finding
-    requires { (from ≤ length rest.now) × (2 * length rest.now ≤ length scratch.old) × (is_broken (lent s slots.now names.now) ≡ false) × Clear scratch.old }
-    ensures { Asked (flags_of flags) (is_name (scope_of (lent s slots.now names.now))) (flatten (texts (prefix rest.now m from))) result.found result.property
-        × (scratch.new ≡ scratch.old) }
+) -> Option<Found>
+    requires { (from ≤ length rest.now) × (2 * length rest.now ≤ length scratch.old) × Clear scratch.old }
+    ensures asked { Asked (flags_of flags) (is_name (sound_scope scope.entry)) (flatten (texts (prefix rest.now m from))) (is_some result) (is_property result) }
+    ensures clean { scratch.new ≡ scratch.old }
 {
     let k = lexer::parts::write_parts(rest, from, m, false, scratch);
     let j = names::flatten::flatten(scratch, k);
-    let r = find(&scratch[..j], flags, s, slots, names);
-    clear(scratch, k);
-    r
+    let found = find(&scratch[..j], flags, scope);
+    scratch[..k].fill(0);
+    found
 }
 
-// How many parts the prefix has, 0 if none is found, and whether it is a property.
+// How many parts the prefix has, and what it was found as.
 #[derive(Clone, Copy)]
 pub struct Prefix {
     pub parts: usize,
-    pub property: bool,
+    pub found: Found,
 }
 
 // The longest prefix of at most n parts, each tried once.
@@ -113,61 +63,45 @@ fn longest(
     from: usize,
     n: usize,
     flags: Flags,
-    s: Scope,
-    slots: &[[u32; Slot::NUMBERS]],
-    names: &[[u32; Scope::MAX_NAME]],
+    scope: Sound,
     scratch: &mut [u32],
-) -> Prefix
-    requires { (from ≤ length rest.now) × (2 * length rest.now ≤ length scratch.old) × (is_broken (lent s slots.now names.now) ≡ false) × Clear scratch.old }
-    ensures { Longest (flags_of flags) (is_name (scope_of (lent s slots.now names.now))) rest.now from n result.parts result.property
-        × (scratch.new ≡ scratch.old) }
+) -> Option<Prefix>
+    requires { (from ≤ length rest.now) × (2 * length rest.now ≤ length scratch.old) × Clear scratch.old }
+    ensures longest { Longest (flags_of flags) (is_name (sound_scope scope.entry)) rest.now from n (parts_of result) (property_of result) }
+    ensures some { IfSome result (λ p. 0 < p.parts) }
+    ensures clean { scratch.new ≡ scratch.old }
 {
-    let mut m = n;
-    while 0 < m {
-        let a = find_parts(rest, from, m, flags, s, slots, names, scratch);
-        let property = a.property;
-        if a.found {
-            return Prefix { parts: m, property };
+    for m in (1..=n).rev() {
+        if let Some(found) = find_parts(rest, from, m, flags, scope, scratch) {
+            return Some(Prefix { parts: m, found });
         }
-        m -= 1;
     }
-    Prefix {
-        parts: 0,
-        property: false,
-    }
+    None
 }
 
 // The length of the longest text that can be found; a property has at most 14 characters.
 fn longest_text(flags: Flags, cap: usize) -> usize
     ensures { (cap ≤ result) × (flags.after_dot ≡ true → 14 ≤ result) }
 {
-    if !flags.after_dot {
-        return cap;
-    }
-    if cap < 14 {
-        return 14;
-    }
-    cap
+    if flags.after_dot { cap.max(14) } else { cap }
 }
 
-// The longest prefix of at most n parts that is found, where no name of the scope has more than cap characters.
+// The longest prefix of at most n parts that is found.
 // Ruled out, among others: the shortest prefix that is found; a property left out because the scope has no name so long.
 pub fn longest_prefix(
     rest: &[u32],
     from: usize,
     n: usize,
     flags: Flags,
-    s: Scope,
-    slots: &[[u32; Slot::NUMBERS]],
-    names: &[[u32; Scope::MAX_NAME]],
-    cap: usize,
+    known: Known,
     scratch: &mut [u32],
-) -> Prefix
-    requires { (from ≤ length rest.now) × Searchable rest.now (lent s slots.now names.now) cap scratch.old }
-    ensures { Longest (flags_of flags) (is_name (scope_of (lent s slots.now names.now))) rest.now from n result.parts result.property
-        × (scratch.new ≡ scratch.old) }
+) -> Option<Prefix>
+    requires { (from ≤ length rest.now) × Searchable rest.now scratch.old }
+    ensures longest { Longest (flags_of flags) (is_name (sound_scope known.entry.scope)) rest.now from n (parts_of result) (property_of result) }
+    ensures some { IfSome result (λ p. 0 < p.parts) }
+    ensures clean { scratch.new ≡ scratch.old }
 {
-    let c = longest_text(flags, cap);
+    let c = longest_text(flags, known.cap);
     let m = lexer::bound::bound(rest, from, n, c);
-    longest(rest, from, m, flags, s, slots, names, scratch)
+    longest(rest, from, m, flags, known.scope, scratch)
 }

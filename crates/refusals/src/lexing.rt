@@ -9,6 +9,7 @@ use lexer::flags::Flags;
 use lexer::token::Read;
 use lexer::token_type::TokenType;
 use runs::item;
+use scope::lent::Lent;
 use scope::scope::{Scope, Slot};
 use std::io;
 use text::refusal::Refusal;
@@ -102,7 +103,12 @@ fn on_lent(
     ensures { CalledBy (spec.next_token (lent s slots.now names.now) (state_of l) text.now out.old scratch.old) result out.new scratch.new }
 {
     let mut lexer = l;
-    let read = lexer.next_token_mut(text, s, slots, names, out, scratch);
+    let scope = Lent {
+        counts: s,
+        slots,
+        names,
+    };
+    let read = lexer.next_token_mut(text, scope, out, scratch);
     Called {
         read,
         place: lexer.position,
@@ -124,7 +130,12 @@ fn called(
     if lends {
         return on_lent(l, text, s, slots, names, out, scratch);
     }
-    tokens::call::next_token(l, text, s, slots, names, out, scratch)
+    let scope = Lent {
+        counts: s,
+        slots,
+        names,
+    };
+    tokens::call::next_token(l, text, scope, out, scratch)
 }
 
 // A call on the first n characters, with so many cells of output and scratch lent.

@@ -61,14 +61,10 @@ pub fn read_item(text: &[u32], at: Progress, known: Known, room: &mut Room) -> P
     ensures same { SameSlices room.old room.new }
 {
     let Counts { items, cells } = at.counts;
-    let scope = known.scope;
     let o = tokens::token::read_token(
         &text[at.position..],
         at.flags,
-        scope.counts,
-        scope.slots,
-        scope.names,
-        known.cap,
+        known,
         &mut room.store[cells..],
         room.scratch,
     );

@@ -1,9 +1,13 @@
 -- What the code of the token call answers and leaves, in the terms of the definitions.
-use Rattle.std.specs.Prelude.{◌≡◌, cond, ◌||◌, List, ℕ, ◌*◌, ltb}
+use Rattle.std.specs.Prelude.{◌≡◌, cond, ◌||◌, List, ℕ, ◌*◌, ltb, Option, None, Some, Result, Ok, Err}
 use Rattle.reading.specs.Slices.{front}
 use Rattle.text.specs.Limits.{max_chars}
-use Rattle.text.specs.Refusals.{too_long, short_slice, broken_scope, beyond_text}
+use Rattle.text.specs.Refusals.{too_long, short_slice, broken_scope, beyond_text, number_of}
 use Rattle.scope.specs.Lent.{Lent, is_broken}
+use Rattle.scope.specs.Answers.{lent}
+use Rattle.scope.specs.declared.lent.Lent.{Lent as CodeLent}
+use Rattle.scope.specs.declared.lent.Sound.{Sound}
+use Rattle.text.specs.declared.refusal.Refusal.{Refusal}
 use Rattle.lexer.specs.Read.{cells_of}
 use Rattle.lexer.specs.Lexer as spec
 use Rattle.lexer.specs.Lexer.{State, state, Step}
@@ -18,13 +22,21 @@ use Rattle.tokens.specs.declared.call.Called.{Called}
 abbrev pub state_of : Lexer → State
 state_of l = state l.position (flags_of l.flags) l.due
 
--- The refusal by the host of a call at position p of a text of n characters; 0 is none.
-abbrev pub refusal_of : Lent → ℕ → ℕ → ℕ → ℕ → ℕ
+abbrev pub lent_of : CodeLent → Lent
+lent_of l = lent l.counts l.slots.now l.names.now
+
+-- The refusal by the host of a call at position p of a text of n characters.
+abbrev pub refusal_of : Lent → ℕ → ℕ → ℕ → ℕ → Option ℕ
 refusal_of lent p n output scratch =
-    cond (ltb max_chars n) too_long
-    (cond (ltb n p) beyond_text
-    (cond (is_broken lent) broken_scope
-    (cond (ltb output n || ltb scratch (2 * n)) short_slice 0)))
+    cond (ltb max_chars n) (Some too_long)
+    (cond (ltb n p) (Some beyond_text)
+    (cond (is_broken lent) (Some broken_scope)
+    (cond (ltb output n || ltb scratch (2 * n)) (Some short_slice) None)))
+
+-- A call that is refused is answered so, and any other with the scope that it was lent.
+abbrev pub Admits : Option ℕ → Lent → Result Sound Refusal → Type 0
+Admits n l (Ok s) = (n ≡ None) × (lent s.counts s.slots.now s.names.now ≡ l)
+Admits n l (Err r) = n ≡ Some (number_of r)
 
 -- A step was made, its value written to the front of o.
 pub record Stepped (a : Step) (o : List ℕ) (r : Called) (o' : List ℕ) : Type 0 where

@@ -1,20 +1,20 @@
 // The lexer: its state, and the token call with the refusals of the host.
-ghost use Rattle.std.specs.Prelude.{◌≡◌, false, cond, ◌*◌, ◌≤◌, length};
+ghost use Rattle.std.specs.Prelude.{◌≡◌, cond, ◌*◌, ◌≤◌, length};
 ghost use Rattle.reading.specs.Cells.{is_one_of};
 ghost use Rattle.text.specs.Limits.{max_chars};
-ghost use Rattle.scope.specs.Lent.{is_broken, scope_of};
-ghost use Rattle.scope.specs.Answers.{lent};
+ghost use Rattle.scope.specs.Sound.{sound_scope};
 ghost use Rattle.lexer.specs.Lexer as spec;
 ghost use Rattle.lexer.specs.TokenType as type;
 ghost use Rattle.lexer.specs.FlagsOf.{flag_named};
 ghost use Rattle.lexer.specs.Fit.{Clear};
-ghost use Rattle.tokens.specs.CalledBy.{state_of, refusal_of, Stepped, CalledBy};
+ghost use Rattle.tokens.specs.CalledBy.{state_of, lent_of, refusal_of, Admits, Stepped, CalledBy};
 
+use crate::token;
 use lexer::flags::{Flag, Flags};
 use lexer::token::Read;
 use lexer::token_type::TokenType;
-use scope::lent::Sound;
-use scope::scope::{Scope, Slot};
+use scope::lent::{Lent, Sound};
+use search::known::Known;
 use text::refusal::Refusal;
 use text::utf8::Text;
 
@@ -69,49 +69,34 @@ pub fn start_number(k: u32) -> u32
     }
 }
 
-// The refusal of a call at a position of a text of n characters, where so many cells of output and scratch are lent; 0 is none.
+// The scope, where a call at a position of a text of n characters may be made, for which so many cells of output and scratch are lent.
 // Ruled out, among others: a broken scope told before a position beyond the text; scratch as long as the text taken for enough.
-fn refusal(
+fn admitted<'a>(
     n: usize,
     position: usize,
-    s: Scope,
-    slots: &[[u32; Slot::NUMBERS]],
-    names: &[[u32; Scope::MAX_NAME]],
+    scope: Lent<'a>,
     out: usize,
     scratch: usize,
-) -> u32
-    ensures { result ≡ refusal_of (lent s slots.now names.now) position n out scratch }
+) -> Result<Sound<'a>, Refusal>
+    ensures { Admits (refusal_of (lent_of scope.entry) position n out scratch) (lent_of scope.entry) result }
 {
     if Text::MAX_CHARS < n {
-        return Refusal::TOO_LONG;
+        return Err(Refusal::TooLong);
     }
     if n < position {
-        return Refusal::BEYOND_TEXT;
+        return Err(Refusal::BeyondText);
     }
-    if scope::broken::is_broken(s, slots, names) {
-        return Refusal::BROKEN_SCOPE;
+    let sound = scope.checked()?;
+    if out < n || scratch < 2 * n {
+        return Err(Refusal::ShortSlice);
     }
-    if out < n {
-        return Refusal::SHORT_SLICE;
-    }
-    if scratch < 2 * n {
-        return Refusal::SHORT_SLICE;
-    }
-    Refusal::NONE
+    Ok(sound)
 }
 
 // The token from the position on: the part of a text's reading that is not refused by the host.
-fn step(
-    l: Lexer,
-    text: &[u32],
-    s: Scope,
-    slots: &[[u32; Slot::NUMBERS]],
-    names: &[[u32; Scope::MAX_NAME]],
-    out: &mut [u32],
-    scratch: &mut [u32],
-) -> Called
-    requires { (length text.now ≤ max_chars) × (l.position ≤ length text.now) × (length text.now ≤ length out.old) × (2 * length text.now ≤ length scratch.old) × (is_broken (lent s slots.now names.now) ≡ false) × Clear scratch.old }
-    ensures { Stepped (spec.step (scope_of (lent s slots.now names.now)) (state_of l) text.now) out.old result out.new
+fn step(l: Lexer, text: &[u32], scope: Sound, out: &mut [u32], scratch: &mut [u32]) -> Called
+    requires { (length text.now ≤ max_chars) × (l.position ≤ length text.now) × (length text.now ≤ length out.old) × (2 * length text.now ≤ length scratch.old) × Clear scratch.old }
+    ensures { Stepped (spec.step (sound_scope scope.entry) (state_of l) text.now) out.old result out.new
         × (scratch.new ≡ scratch.old) }
 {
     let p = l.position;
@@ -122,13 +107,7 @@ fn step(
             next: Lexer { due: None, ..l },
         };
     }
-    let scope = Sound {
-        counts: s,
-        slots,
-        names,
-    };
-    let cap = search::longest::longest_key(scope);
-    let o = crate::token::read_token(&text[p..], l.flags, s, slots, names, cap, out, scratch);
+    let o = token::read_token(&text[p..], l.flags, Known::of(scope), out, scratch);
     let place = p + o.used;
     Called {
         read: o.read,
@@ -146,23 +125,19 @@ fn step(
 pub fn next_token(
     l: Lexer,
     text: &[u32],
-    s: Scope,
-    slots: &[[u32; Slot::NUMBERS]],
-    names: &[[u32; Scope::MAX_NAME]],
+    scope: Lent,
     out: &mut [u32],
     scratch: &mut [u32],
 ) -> Called
-    ensures { CalledBy (spec.next_token (lent s slots.now names.now) (state_of l) text.now out.old scratch.old) result out.new scratch.new }
+    ensures { CalledBy (spec.next_token (lent_of scope.entry) (state_of l) text.now out.old scratch.old) result out.new scratch.new }
 {
-    let m = scratch.len();
-    naming::prefix::clear(scratch, m);
-    let n = refusal(text.len(), l.position, s, slots, names, out.len(), m);
-    if 0 < n {
-        return Called {
-            read: Read::Refused(n, 0),
+    scratch.fill(0);
+    match admitted(text.len(), l.position, scope, out.len(), scratch.len()) {
+        Ok(scope) => step(l, text, scope, out, scratch),
+        Err(refusal) => Called {
+            read: Read::Refused(refusal.into(), 0),
             place: l.position,
             next: l,
-        };
+        },
     }
-    step(l, text, s, slots, names, out, scratch)
 }

@@ -1,15 +1,14 @@
 // A lexer lent to be changed: each method takes the state out, calls the function by value, and puts the new state back.
 ghost use Rattle.std.specs.Prelude.{◌≡◌};
-ghost use Rattle.scope.specs.Answers.{lent};
 ghost use Rattle.lexer.specs.Lexer as spec;
 ghost use Rattle.lexer.specs.FlagsOf.{flag_named};
-ghost use Rattle.tokens.specs.CalledBy.{state_of, CalledBy, standing};
+ghost use Rattle.tokens.specs.CalledBy.{state_of, lent_of, CalledBy, standing};
 
 use crate::call;
 use crate::call::Lexer;
 use lexer::flags::Flag;
 use lexer::token::Read;
-use scope::scope::{Scope, Slot};
+use scope::lent::Lent;
 
 impl Lexer {
     // Sets one flag and clears none.
@@ -25,15 +24,13 @@ impl Lexer {
     pub fn next_token_mut(
         &mut self,
         text: &[u32],
-        s: Scope,
-        slots: &[[u32; Slot::NUMBERS]],
-        names: &[[u32; Scope::MAX_NAME]],
+        scope: Lent,
         out: &mut [u32],
         scratch: &mut [u32],
     ) -> Read
-        ensures { CalledBy (spec.next_token (lent s slots.now names.now) (state_of self.old) text.now out.old scratch.old) (standing result self.new) out.new scratch.new }
+        ensures { CalledBy (spec.next_token (lent_of scope.entry) (state_of self.old) text.now out.old scratch.old) (standing result self.new) out.new scratch.new }
     {
-        let c = call::next_token(*self, text, s, slots, names, out, scratch);
+        let c = call::next_token(*self, text, scope, out, scratch);
         *self = c.next;
         c.read
     }

@@ -1,5 +1,5 @@
 // The token reader: one reading of a text from its first cell on.
-ghost use Rattle.std.specs.Prelude.{◌≡◌, true, false, ◌&&◌, ◌||◌, List, [], ℕ, ◌+◌, ◌*◌, ◌≤◌, eqb, length};
+ghost use Rattle.std.specs.Prelude.{◌≡◌, true, ◌&&◌, ◌||◌, List, [], ℕ, ◌+◌, ◌*◌, ◌≤◌, eqb, length};
 ghost use Rattle.reading.specs.Codes.{codes};
 ghost use Rattle.reading.specs.Look.{cell_at};
 ghost use Rattle.reading.specs.Cells.{holds, is};
@@ -7,9 +7,7 @@ ghost use Rattle.text.specs.Limits.{max_chars};
 ghost use Rattle.text.specs.Classes.{is_digit};
 ghost use Rattle.names.specs.Same.{same};
 ghost use Rattle.scope.specs.Keys.{is_name};
-ghost use Rattle.scope.specs.Capped.{Capped};
-ghost use Rattle.scope.specs.Lent.{is_broken, scope_of};
-ghost use Rattle.scope.specs.Answers.{lent};
+ghost use Rattle.scope.specs.Sound.{sound_scope};
 ghost use Rattle.lexer.specs.Read as spec;
 ghost use Rattle.lexer.specs.Number.{read_number};
 ghost use Rattle.lexer.specs.Text.{read_string};
@@ -26,7 +24,7 @@ use lexer::string::Literal;
 use lexer::token::{Outcome, Read};
 use lexer::token_type::TokenType;
 use lexer::window;
-use scope::scope::{Scope, Slot};
+use search::known::Known;
 use text::chars::Char;
 use words::keywords;
 use words::keywords::Found;
@@ -65,18 +63,13 @@ fn number_at(rest: &[u32], i: usize, q: usize, flags: Flags, out: &mut [u32]) ->
     ensures { Takes rest.now q (with_flags (flags_of flags) (read_number fuel i)) out.old result out.new }
 {
     let n = lexer::number::read_number(rest, i);
-    let before = (n.before - i).max(1);
-    let after = n.after - n.from;
-    let minus = n.minus;
-    let exponent = n.end - n.exponent;
-    let end = n.end;
-    let reach = q.max(n.reach);
     lexer::number::write_number(rest, i, n, out);
+    let before = (n.before - i).max(1);
     Outcome {
-        read: Read::Numeric(before, after, minus, exponent),
-        used: end,
+        read: Read::Numeric(before, n.after - n.from, n.minus, n.end - n.exponent),
+        used: n.end,
         flags,
-        reach,
+        reach: q.max(n.reach),
     }
 }
 
@@ -89,31 +82,21 @@ fn string_at(rest: &[u32], i: usize, q: usize, flags: Flags, out: &mut [u32]) ->
     match l {
         Literal::Chars(_, end) => {
             let n = lexer::string::write_string(rest, i + 1, out);
-            let reach = q.max(end + 1);
             Outcome {
                 read: Read::Chars(TokenType::STRING, n),
                 used: end,
                 flags,
-                reach,
+                reach: q.max(end + 1),
             }
         }
-        Literal::LineEnds(end) => {
-            let reach = q.max(end + 2);
-            plain(TokenType::YY_UNDEF, end, flags, reach)
-        }
-        Literal::TextEnds(end) => {
-            let reach = q.max(end + 2);
-            plain(TokenType::YY_EOF, end, flags, reach)
-        }
-        Literal::Broken(n, carry, end, far) => {
-            let reach = q.max(far);
-            Outcome {
-                read: Read::Refused(n, carry),
-                used: end,
-                flags,
-                reach,
-            }
-        }
+        Literal::LineEnds(end) => { plain(TokenType::YY_UNDEF, end, flags, q.max(end + 2)) }
+        Literal::TextEnds(end) => { plain(TokenType::YY_EOF, end, flags, q.max(end + 2)) }
+        Literal::Broken(n, carry, end, far) => Outcome {
+            read: Read::Refused(n, carry),
+            used: end,
+            flags,
+            reach: q.max(far),
+        },
     }
 }
 
@@ -133,31 +116,22 @@ fn other_cases(
     c: u32,
     q: usize,
     flags: Flags,
-    s: Scope,
-    slots: &[[u32; Slot::NUMBERS]],
-    names: &[[u32; Scope::MAX_NAME]],
-    cap: usize,
+    known: Known,
     out: &mut [u32],
     scratch: &mut [u32],
 ) -> Outcome
-    requires { (length rest.now ≤ max_chars) × (i ≤ length rest.now) × (c ≡ shown (cell_at rest.now i)) × (length rest.now ≤ length out.old) × Searchable rest.now (lent s slots.now names.now) cap scratch.old }
-    ensures { Takes rest.now q (other_cases fuel (flags_of flags) (is_name (scope_of (lent s slots.now names.now))) (window_of 12 rest.now i) i) out.old result out.new
+    requires { (length rest.now ≤ max_chars) × (i ≤ length rest.now) × (c ≡ shown (cell_at rest.now i)) × (length rest.now ≤ length out.old) × Searchable rest.now scratch.old }
+    ensures { Takes rest.now q (other_cases fuel (flags_of flags) (is_name (sound_scope known.entry.scope)) (window_of 12 rest.now i) i) out.old result out.new
         × (scratch.new ≡ scratch.old) }
 {
     if text::classes::is_digit(c) {
         return number_at(rest, i, q, flags, out);
     }
     if text::classes::is_name_start_char(c) {
-        let o = naming::name::read_name(rest, i, flags, s, slots, names, cap, out, scratch);
-        let read = o.read;
-        let used = o.used;
-        let after = o.flags;
-        let reach = q.max(o.reach);
+        let o = naming::name::read_name(rest, i, flags, known, out, scratch);
         return Outcome {
-            read,
-            used,
-            flags: after,
-            reach,
+            reach: q.max(o.reach),
+            ..o
         };
     }
     if is_blank(rest, i) {
@@ -171,10 +145,7 @@ fn begins_with_point(rest: &[u32], i: usize, c: u32) -> bool
     requires { i ≤ max_chars }
     ensures { result ≡ eqb 0x2E c && is_digit (shown (cell_at rest.now (i + 1))) }
 {
-    if Char::DOT == c {
-        return text::classes::is_digit(window::shown_at(rest, i + 1));
-    }
-    false
+    Char::DOT == c && text::classes::is_digit(window::shown_at(rest, i + 1))
 }
 
 // Behind the words: a number that begins with its point, a string, a symbol, or another case.
@@ -184,15 +155,12 @@ fn behind_words(
     c: u32,
     q: usize,
     flags: Flags,
-    s: Scope,
-    slots: &[[u32; Slot::NUMBERS]],
-    names: &[[u32; Scope::MAX_NAME]],
-    cap: usize,
+    known: Known,
     out: &mut [u32],
     scratch: &mut [u32],
 ) -> Outcome
-    requires { (length rest.now ≤ max_chars) × (i ≤ length rest.now) × (c ≡ shown (cell_at rest.now i)) × (length rest.now ≤ length out.old) × (q ≤ length rest.now + 12) × Searchable rest.now (lent s slots.now names.now) cap scratch.old }
-    ensures { Takes rest.now q (behind_words fuel (flags_of flags) (is_name (scope_of (lent s slots.now names.now))) (window_of 12 rest.now i) i) out.old result out.new
+    requires { (length rest.now ≤ max_chars) × (i ≤ length rest.now) × (c ≡ shown (cell_at rest.now i)) × (length rest.now ≤ length out.old) × (q ≤ length rest.now + 12) × Searchable rest.now scratch.old }
+    ensures { Takes rest.now q (behind_words fuel (flags_of flags) (is_name (sound_scope known.entry.scope)) (window_of 12 rest.now i) i) out.old result out.new
         × (scratch.new ≡ scratch.old) }
 {
     if begins_with_point(rest, i, c) {
@@ -204,9 +172,7 @@ fn behind_words(
     let m = keywords::first_symbol(rest, i, c, flags, q);
     match m.found {
         Some(found) => of_word(found, flags, m.reach),
-        None => other_cases(
-            rest, i, c, m.reach, flags, s, slots, names, cap, out, scratch,
-        ),
+        None => other_cases(rest, i, c, m.reach, flags, known, out, scratch),
     }
 }
 
@@ -215,24 +181,19 @@ fn by_window(
     rest: &[u32],
     i: usize,
     flags: Flags,
-    s: Scope,
-    slots: &[[u32; Slot::NUMBERS]],
-    names: &[[u32; Scope::MAX_NAME]],
-    cap: usize,
+    known: Known,
     out: &mut [u32],
     scratch: &mut [u32],
 ) -> Outcome
-    requires { (length rest.now ≤ max_chars) × (i ≤ length rest.now) × (length rest.now ≤ length out.old) × Searchable rest.now (lent s slots.now names.now) cap scratch.old }
-    ensures { Takes rest.now (i + 12) (cases fuel (flags_of flags) (is_name (scope_of (lent s slots.now names.now))) (window_of 12 rest.now i) i) out.old result out.new
+    requires { (length rest.now ≤ max_chars) × (i ≤ length rest.now) × (length rest.now ≤ length out.old) × Searchable rest.now scratch.old }
+    ensures { Takes rest.now (i + 12) (cases fuel (flags_of flags) (is_name (sound_scope known.entry.scope)) (window_of 12 rest.now i) i) out.old result out.new
         × (scratch.new ≡ scratch.old) }
 {
     let c = window::shown_at(rest, i);
     let m = keywords::first_word(rest, i, c, flags);
     match m.found {
         Some(found) => of_word(found, flags, m.reach),
-        None => behind_words(
-            rest, i, c, m.reach, flags, s, slots, names, cap, out, scratch,
-        ),
+        None => behind_words(rest, i, c, m.reach, flags, known, out, scratch),
     }
 }
 
@@ -241,29 +202,18 @@ fn by_window(
 pub fn read_token(
     rest: &[u32],
     flags: Flags,
-    s: Scope,
-    slots: &[[u32; Slot::NUMBERS]],
-    names: &[[u32; Scope::MAX_NAME]],
-    cap: usize,
+    known: Known,
     out: &mut [u32],
     scratch: &mut [u32],
 ) -> Outcome
-    requires { (length rest.now ≤ max_chars) × (length rest.now ≤ length out.old) × (2 * length rest.now ≤ length scratch.old) × (is_broken (lent s slots.now names.now) ≡ false) × Clear scratch.old
-        × Capped (is_name (scope_of (lent s slots.now names.now))) cap }
-    ensures { Taken rest.now (is_name (scope_of (lent s slots.now names.now))) (flags_of flags) out.old result out.new
+    requires { (length rest.now ≤ max_chars) × (length rest.now ≤ length out.old) × (2 * length rest.now ≤ length scratch.old) × Clear scratch.old }
+    ensures { Taken rest.now (is_name (sound_scope known.entry.scope)) (flags_of flags) out.old result out.new
         × (scratch.new ≡ scratch.old) }
 {
     let i = lexer::skip::skip(rest);
-    let o = by_window(rest, i, flags, s, slots, names, cap, out, scratch);
-    let token = o.read;
-    let used = o.used;
-    let before = o.flags;
-    let after = before.clear(Flag::UnaryTests);
-    let reach = o.reach;
+    let o = by_window(rest, i, flags, known, out, scratch);
     Outcome {
-        read: token,
-        used,
-        flags: after,
-        reach,
+        flags: o.flags.clear(Flag::UnaryTests),
+        ..o
     }
 }

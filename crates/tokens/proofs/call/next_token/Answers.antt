@@ -1,20 +1,27 @@
 -- Scratch is cleared first, so that a refused call leaves it zero, too.
-use mathlib.Core.Path.{◌≡◌}
+use mathlib.Core.Path.{◌∙◌, sym, refl}
 use lib.ListN.{length}
-use mathlib.Core.Path.{◌∙◌, sym}
 use native.Mathlib.Omega.{arith}
-use Rattle.tokens.proofs.CallLaws.{accepted, cleared, all-clear, call_refused, call_made}
+use Rattle.naming.proofs.PrefixLaws.{filled}
+use Rattle.tokens.specs.CalledBy.{lent_of}
+use Rattle.tokens.proofs.CallLaws.{accepted, call_refused, call_made}
 use Rattle.tokens.proofs.call.next_token.Goals as goal
-
-pub returns-then-n-gt0 : goal.returns-then-n-gt0
-returns-then-n-gt0 c = let x = c.args in call_refused _ x.l x.text.now x.out.now x.scratch.now (cleared c.clear.ensures) c.refusal-n.ensures (omega arith)
 
 pub step-requires : goal.step-requires
 step-requires c =
     let x = c.args in
-    let z : c.refusal-n.result ≡ 0 = omega arith in
-    let a = accepted _ x.l.position (length x.text.now) (length x.out.now) (length x.scratch.now) (sym z ∙ c.refusal-n.ensures) in
-    (a.0, a.1, omega (arith, a.3), omega (arith, a.4), a.2, all-clear c.clear.ensures)
+    let a = rw c.in-Ok.is at c.admitted.ensures in
+    let b = accepted (lent_of x.scope) x.l.position (length x.text.now) (length x.out.now) (length c.fill.new.self) a.0 in
+    (b.0, b.1, omega (arith, b.2), omega (arith, b.3), record { all = filled (c.fill.ensures.after (λ y e. e)) (sym c.fill.ensures.len) })
 
-pub returns : goal.returns
-returns c = let x = c.args in call_made _ x.l x.text.now x.out.now x.scratch.now (c.step.ensures.1 ∙ cleared c.clear.ensures) c.refusal-n.ensures (omega arith) c.step.ensures.0
+pub returns-in-Ok : goal.returns-in-Ok
+returns-in-Ok c =
+    let x = c.args in
+    let a = rw c.in-Ok.is at c.admitted.ensures in
+    call_made (lent_of x.scope) x.l x.text.now x.out.now x.scratch.now (c.step.ensures.1 ∙ filled (c.fill.ensures.after (λ y e. e)) refl) (rw c.fill.ensures.len at a.0) a.1 c.step.ensures.0
+
+pub returns-in-Err : goal.returns-in-Err
+returns-in-Err c =
+    let x = c.args in
+    let a = rw c.in-Err.is at c.admitted.ensures in
+    rw c.into.ensures (call_refused (lent_of x.scope) x.l x.text.now x.out.now x.scratch.now (filled (c.fill.ensures.after (λ y e. e)) refl) _ (rw c.fill.ensures.len at a))

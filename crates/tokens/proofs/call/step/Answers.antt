@@ -1,4 +1,4 @@
--- A start token is due, or the token reader reads from the position on.
+-- The token reader reads from the position on.
 use native.Mathlib.Omega.{arith}
 use Rattle.tokens.proofs.CallLaws.{step-within}
 use Rattle.tokens.proofs.call.step.Goals as goal

@@ -7,4 +7,4 @@ pub write_number-requires : goal.write_number-requires
 write_number-requires c = let n = c.read_number-n.ensures in (n, number-room n c.requires.0 c.requires.3 (omega arith))
 
 pub returns : goal.returns
-returns c = number-taken c.read_number-n.ensures c.write_number.ensures c.args.flags c.max-reach.ensures c.max-before.ensures
+returns c = number-taken c.read_number-n.ensures c.write_number.ensures c.args.flags c.max.ensures c.max-before.ensures
