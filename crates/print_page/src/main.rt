@@ -76,7 +76,7 @@ fn print_text(rt: &impl Print, text: &[u32]) -> io::Result<()> {
         scope,
         &mut room,
     ) {
-        Ok(counts) => print_rows(rt, &rows[..counts.items]),
+        Ok(counts) => print_rows(rt, &room.rows[..counts.items]),
         Err(refusal) => print_refusal(rt, u32::from(refusal), 0),
     }
 }

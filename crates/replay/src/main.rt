@@ -44,6 +44,7 @@ fn print_case(rt: &impl Print, line: &str) -> io::Result<()> {
     };
     match runs::run::run(&text[..n], start_type, flags, scope, &mut room) {
         Ok(Counts { items, cells }) => {
+            let Room { rows, store, .. } = room;
             let record = Record {
                 rows: &rows[..items],
                 store: &store[..cells],
