@@ -17,7 +17,7 @@ use Rattle.runs.specs.Edit.{Change, changed}
 use Rattle.runs.specs.Record.{Record, bit_flags}
 use Rattle.runs.specs.Calls.{Room, made, refused, has_room, room_after, run_record, checked, run_call, repair_call}
 use Rattle.runs.specs.Ran.{answer_of, Ran}
-use Rattle.runs.specs.declared.call.Made.TheVariants as variant
+use Rattle.std.specs.Prelude.{Ok}
 use Rattle.runs.proofs.Demand3.{demand_3}
 use Rattle.repair.proofs.BothCalls.{behind, same-request}
 use Rattle.feel_lexer.specs.Numbers.{lent_of, all_flags}
@@ -61,7 +61,7 @@ module _ (start flags : ℕ) (scope : List ℕ) (slots names : List (List ℕ)) 
       let formed = was_formed (is_answer ns && leb flags all_flags) (recorded (run_call lent first start opening old) first) first ns zero in
       let was = was_made lent first (length old) r formed.1 in
       let left : run old first ns ≡ recorded (made r) first = ap (λ b. cond b (recorded (run_call lent first start opening old) first) (not_recorded first ns)) formed.0 ∙ ap (λ a. recorded a first) was.1 in
-      let ran : Ran lent start opening old first (variant.Record (length r.rows) (length r.store)) (room_after (made r) first) = record { answer = ap answer_of (sym was.1); left = ap (λ a. room_after a first) (sym was.1) } in
+      let ran : Ran lent start opening old first (Ok (record { items = length r.rows; cells = length r.store })) (room_after (made r) first) = record { answer = ap answer_of (sym was.1); left = ap (λ a. room_after a first) (sym was.1) } in
       let request = ap (λ x. handed_on old x c) left ∙ same-request lent start opening old first ran c.from c.to c.new in
       let call = ap (repair_call lent room) request ∙ demand_3 lent room start opening old c.from c.to c.new (behind lent start opening old first ran c.from c.to c.new) ordered within was.0 in
       ap (λ a. cond (is_answer ns') (recorded a room) (not_recorded room ns')) call

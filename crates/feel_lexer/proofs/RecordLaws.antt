@@ -11,6 +11,9 @@ pub same_recorded : (a : runs.Answer) (room : Room) → recorded a room ≡ reco
 same_recorded (runs.made r) room = refl
 same_recorded (runs.refused n) room = refl
 
+pub told_as : (a : runs.Answer) (room : Room) {left room' : Room} → left ≡ room_after a room → left ≡ room' → recorded a room ≡ record { number = made_number (answer_of a); room = room'; answer = made_answer (answer_of a) }
+told_as a room e f = rw (← f, e) (same_recorded a room)
+
 pub checked_ok : {more : Bool} {ns : List ℕ} {r : Result (Unit {0}) ℕ} {ns' : List ℕ} → Checked more ns r ns' → {x : Unit {0}} → r ≡ Ok x → is_answer ns && more ≡ true
 checked_ok {more} {ns} k e = go (is_answer ns && more) (sym e ∙ k.outcome)
   where

@@ -21,7 +21,6 @@ use Rattle.lexer.specs.Answered.{read_of, cell_count, Says}
 use Rattle.lexer.specs.Lexer as spec
 use Rattle.lexer.specs.Lexer.{State, step, next_token}
 use Rattle.lexer.specs.Token.{read_token}
-use Rattle.lexer.specs.declared.flags.Flags.{Flags}
 use Rattle.lexer.specs.declared.token.Read.{Read as Answer}
 use Rattle.lexer.specs.declared.token.Read.TheVariants.{Plain, Boolean, Numeric, Chars, Refused}
 use Rattle.lexer.proofs.TokenFacts.{sound}
@@ -29,10 +28,9 @@ use Rattle.lexer.proofs.AnsweredLaws.{three}
 use Rattle.tokens.specs.CalledBy.{state_of, CalledBy}
 use Rattle.tokens.specs.declared.call.Lexer.{Lexer}
 use Rattle.tokens.specs.declared.call.Called.{Called}
-use Rattle.runs.specs.Coded.{item_from}
-use Rattle.runs.specs.declared.item.Item.{Item}
+use Rattle.runs.specs.Coded.{kind_from}
 use Rattle.feel_lexer.specs.Numbers.{counts_of, lent_of, state_at, lexer_numbers, is_lexer}
-use Rattle.feel_lexer.specs.Exported.{is_answer, feel_next_token, refusal_number, read_answer, item_number, item_answer}
+use Rattle.feel_lexer.specs.Exported.{is_answer, feel_next_token, refusal_number, read_answer, kind_number, coded_answer}
 
 module _ (l : Lent) (s : State) (t output scratch : List ℕ) where
   step_short : length t ≤ max_chars → length (cells_of (step (scope_of l) s t).read) ≤ max_chars
@@ -65,19 +63,19 @@ whole_parts a b c o e =
     let z = length-take c (drop (a + b) o) in
     (omega arith, omega arith, omega arith)
 
--- The code's item of an answer has the number and the answer of what that says was read.
-abbrev pub Same : Answer → Read → ℕ → Flags → Type 0
-Same a x p f = (item_number (item_from a p f 0) ≡ refusal_number x) × (item_answer (item_from a p f 0) ≡ read_answer x p)
+-- The code tells of an answer what that says was read.
+abbrev pub Same : Answer → Read → ℕ → Type 0
+Same a x p = (kind_number (kind_from a) ≡ refusal_number x) × (coded_answer a p ≡ read_answer x p)
 
-of_case : (a : Answer) (o : List ℕ) → cell_count a ≡ length (cells_of (read_of a o)) → (p : ℕ) (f : Flags) → Same a (read_of a o) p f
-of_case (Plain k) o e p f = (refl, refl)
-of_case (Boolean b) o e p f = (refl, refl)
-of_case (Numeric before after minus exponent) o e p f = let w = whole_parts before after exponent o e in (refl, rw (← e, w.0, w.1, w.2))
-of_case (Chars k n) o e p f = (refl, rw (← e))
-of_case (Refused n c) o e p f = (refl, refl)
+of_case : (a : Answer) (o : List ℕ) → cell_count a ≡ length (cells_of (read_of a o)) → (p : ℕ) → Same a (read_of a o) p
+of_case (Plain k) o e p = (refl, refl)
+of_case (Boolean b) o e p = (refl, refl)
+of_case (Numeric before after minus exponent) o e p = let w = whole_parts before after exponent o e in (refl, rw (← e, w.0, w.1, w.2))
+of_case (Chars k n) o e p = (refl, rw (← e))
+of_case (Refused n c) o e p = (refl, refl)
 
-pub same_item : {a : Answer} {o : List ℕ} {x : Read} → Says a o x → (p : ℕ) (f : Flags) → Same a x p f
-same_item {a} {o} {x} s p f = subst (λ y. Same a y p f) s.means (of_case a o (s.size ∙ ap (λ y. length (cells_of y)) (sym s.means)) p f)
+pub same_read : {a : Answer} {o : List ℕ} {x : Read} → Says a o x → (p : ℕ) → Same a x p
+same_read {a} {o} {x} s p = subst (λ y. Same a y p) s.means (of_case a o (s.size ∙ ap (λ y. length (cells_of y)) (sym s.means)) p)
 
 -- The call on what the numbers stand for, with the answer that is told of it.
 module _ (lexer scope : List ℕ) (slots names : List (List ℕ)) (text output scratch ns : List ℕ) where
@@ -94,10 +92,10 @@ module _ (lexer scope : List ℕ) (slots names : List (List ℕ)) (text output s
     pub value_short : cell_count c.read ≤ max_chars
     value_short = omega (arith, called_at.read.size, next_short (lent_of scope slots names) (state_at lexer) text output scratch)
 
-    pub token_taken : is_answer ns && is_lexer lexer ≡ true → {lexer' : List ℕ} → lexer' ≡ lexer_numbers (state_of c.next) → (f : Flags) {i : Item} → i ≡ item_from c.read c.place f 0 → {n : ℕ} {ns' : List ℕ} → n ≡ item_number i → ns' ≡ item_answer i
+    pub token_taken : is_answer ns && is_lexer lexer ≡ true → {lexer' : List ℕ} → lexer' ≡ lexer_numbers (state_of c.next) → {n : ℕ} {ns' : List ℕ} → n ≡ kind_number (kind_from c.read) → ns' ≡ coded_answer c.read c.place
         → feel_next_token lexer text scope slots names output scratch ns ≡ record { number = n; lexer = lexer'; output = output'; scratch = scratch'; answer = ns' }
-    token_taken h {lexer'} e f {i} g k m =
+    token_taken h {lexer'} e k m =
         let w = called_at in
         let v : lexer' ≡ lexer_numbers answered.next = e ∙ ap lexer_numbers w.next in
-        let y = same_item w.read c.place f in
-        rw (h, v, k, m, g, y.0, y.1, w.place, w.left, w.clean)
+        let y = same_read w.read c.place in
+        rw (h, v, k, m, y.0, y.1, w.place, w.left, w.clean)

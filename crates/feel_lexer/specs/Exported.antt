@@ -16,9 +16,9 @@ use Rattle.lexer.specs.Lexer.{Called as TokenCalled, next_token}
 use Rattle.tokens.specs.CalledBy.{state_of}
 use Rattle.tokens.specs.declared.call.Lexer.{Lexer}
 use Rattle.runs.specs.Item.{lengths_of, extra_of}
-use Rattle.runs.specs.declared.item.Item.{Item}
-use Rattle.runs.specs.declared.call.Made.{Made}
-use Rattle.runs.specs.declared.call.Made.TheVariants as made
+use Rattle.lexer.specs.declared.token.Read.{Read as Coded}
+use Rattle.runs.specs.Coded.{kind_from, value_from}
+use Rattle.runs.specs.declared.call.Counts.{Counts}
 use Rattle.runs.specs.Record.{bit_flags}
 use Rattle.runs.specs.Request.{Request}
 use Rattle.runs.specs.Calls as runs
@@ -142,12 +142,19 @@ abbrev pub Ready : List ℕ → List ℕ → Result Lexer ℕ → List ℕ → T
 Ready ns a (Ok l) a' = (is_answer a && is_lexer ns ≡ true) × (state_of l ≡ state_at ns) × (a' ≡ placed 0 0)
 Ready ns a (Err n) a' = (is_answer a && is_lexer ns ≡ false) × (n ≡ short_slice) × (a' ≡ told (placed 0 0) a)
 
--- The same of the code's item.
-abbrev pub item_number : Item → ℕ
-item_number i = cond i.is_refusal i.number 0
+-- The same of the code's reading.
+abbrev pub kind_type : Result ℕ ℕ → ℕ
+kind_type (Ok k) = k
+kind_type (Err n) = 0
 
-abbrev pub item_answer : Item → List ℕ
-item_answer i = cond i.is_refusal (placed i.position i.extra) (answer i.position i.number i.length i.before i.after i.exponent i.extra 0)
+abbrev pub kind_number : Result ℕ ℕ → ℕ
+kind_number (Ok k) = 0
+kind_number (Err n) = n
+
+abbrev pub coded_answer : Coded → ℕ → List ℕ
+coded_answer a place =
+    let v = value_from a in
+    answer place (kind_type (kind_from a)) v.length v.before v.after v.exponent v.extra 0
 
 -- Run and repair.
 pub record Recorded : Type 0 where
@@ -160,13 +167,13 @@ recorded (runs.made r) room = record { number = 0; room = room_after (runs.made 
 recorded (runs.refused n) room = record { number = n; room = room_after (runs.refused n) room; answer = placed 0 0 }
 
 -- The same of what the code answers.
-abbrev pub made_number : Made → ℕ
-made_number (made.Record items cells) = 0
-made_number (made.Refused n) = n
+abbrev pub made_number : Result Counts ℕ → ℕ
+made_number (Ok c) = 0
+made_number (Err n) = n
 
-abbrev pub made_answer : Made → List ℕ
-made_answer (made.Record items cells) = counted cells items
-made_answer (made.Refused n) = placed 0 0
+abbrev pub made_answer : Result Counts ℕ → List ℕ
+made_answer (Ok c) = counted c.cells c.items
+made_answer (Err n) = placed 0 0
 
 abbrev pub not_recorded : Room → List ℕ → Recorded
 not_recorded room ns = record { number = short_slice; room = room_after (runs.refused short_slice) room; answer = told (placed 0 0) ns }

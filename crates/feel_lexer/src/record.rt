@@ -4,23 +4,29 @@
 ghost use Rattle.std.specs.Prelude.{◌≡◌};
 ghost use Rattle.repair.specs.Asking.{asked};
 ghost use Rattle.feel_lexer.specs.Numbers.{placed};
+ghost use Rattle.runs.specs.Ran.{numbered};
 ghost use Rattle.feel_lexer.specs.Exported as spec;
 
 use crate::answer::Answer;
 use crate::{answer, state};
 use lexer::flags::Flags;
-use runs::call::Made;
+use repair::request::Request;
+use runs::call;
+use runs::call::Counts;
 use runs::item::Item;
-use runs::{call, item};
+use runs::record::Record;
+use runs::room::Room;
+use scope::lent::Lent;
 use scope::scope::{Scope, Slot};
+use text::refusal::Refusal;
 
 // Writes how many items and value cells a record has; an answer at place 0 stays so where none was made.
-fn after(made: Made, answer: &mut [usize]) -> Result<(), u32>
+fn after(made: Result<Counts, Refusal>, answer: &mut [usize]) -> Result<(), u32>
     requires { answer.old ≡ placed 0 0 }
-    ensures { (spec.number result ≡ spec.made_number made) × (answer.new ≡ spec.made_answer made) }
+    ensures { (spec.number result ≡ spec.made_number (numbered made)) × (answer.new ≡ spec.made_answer (numbered made)) }
 {
     match made {
-        Made::Record(items, cells) => {
+        Ok(Counts { items, cells }) => {
             Answer {
                 length: cells,
                 items,
@@ -29,7 +35,7 @@ fn after(made: Made, answer: &mut [usize]) -> Result<(), u32>
             .write(answer);
             Ok(())
         }
-        Made::Refused(n) => Err(n),
+        Err(refusal) => Err(u32::from(refusal)),
     }
 }
 
@@ -56,9 +62,18 @@ pub extern "C" fn feel_run(
         call::clear(scratch);
         return refusal;
     }
-    let s = state::scope_of(scope);
-    let f = item::bit_flags(flags);
-    let made = runs::run::run(text, start_type, f, s, slots, names, rows, store, scratch);
+    let lent = Lent {
+        counts: state::scope_of(scope),
+        slots,
+        names,
+    };
+    let f = Flags::from_bits(flags);
+    let mut room = Room {
+        rows,
+        store,
+        scratch,
+    };
+    let made = runs::run::run(text, start_type, f, lent, &mut room);
     answer::number(after(made, answer))
 }
 
@@ -89,10 +104,27 @@ pub extern "C" fn feel_repair(
         call::clear(scratch);
         return refusal;
     }
-    let s = state::scope_of(scope);
-    let made = repair::repair::repair(
-        old_length, old_rows, old_store, from, to, size, part, s, slots, names, rows, store,
+    let lent = Lent {
+        counts: state::scope_of(scope),
+        slots,
+        names,
+    };
+    let request = Request {
+        old_length,
+        old: Record {
+            rows: old_rows,
+            store: old_store,
+        },
+        from,
+        to,
+        size,
+        part,
+    };
+    let mut room = Room {
+        rows,
+        store,
         scratch,
-    );
+    };
+    let made = repair::repair::repair(request, lent, &mut room);
     answer::number(after(made, answer))
 }

@@ -5,7 +5,6 @@ ghost use Rattle.feel_lexer.specs.Numbers as spec;
 ghost use Rattle.feel_lexer.specs.Exported.{LexerOf};
 
 use lexer::flags::Flags;
-use runs::item;
 use scope::scope::Scope;
 use tokens::call::Lexer;
 
@@ -55,7 +54,7 @@ pub fn lexer_of(numbers: &[usize]) -> Option<Lexer>
     };
     Some(Lexer {
         position,
-        flags: item::bit_flags(flags as u32),
+        flags: Flags::from_bits(flags as u32),
         due,
     })
 }
@@ -64,7 +63,7 @@ pub fn put_lexer(numbers: &mut [usize], l: Lexer)
     requires { length numbers.old ≡ spec.lexer_size }
     ensures { numbers.new ≡ spec.lexer_numbers (state_of l) }
 {
-    let flags = item::flag_bits(l.flags) as usize;
+    let flags = u32::from(l.flags) as usize;
     let (pending, start) = match l.due {
         Some(start_type) => (1, start_type as usize),
         None => (0, 0),

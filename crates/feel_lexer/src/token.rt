@@ -1,12 +1,17 @@
 // The token call.
-ghost use Rattle.std.specs.Prelude.{◌≡◌, length};
+ghost use Rattle.std.specs.Prelude.{◌≡◌, ◌≤◌, length};
+ghost use Rattle.text.specs.Limits.{max_chars};
+ghost use Rattle.lexer.specs.Answered.{cell_count};
+ghost use Rattle.runs.specs.Coded.{kind_from};
 ghost use Rattle.feel_lexer.specs.Numbers.{answer_size};
 ghost use Rattle.feel_lexer.specs.Exported as spec;
 
 use crate::answer::Answer;
 use crate::{answer, state};
+use lexer::token::Read;
 use runs::call;
-use runs::item::Item;
+use runs::item;
+use runs::item::Value;
 use scope::lent::Lent;
 use scope::scope::{Scope, Slot};
 use text::refusal::Refusal;
@@ -20,33 +25,36 @@ fn ready(lexer: &[usize], answer: &mut [usize]) -> Result<Lexer, u32>
     state::lexer_of(lexer).ok_or(Refusal::SHORT_SLICE)
 }
 
-// Writes the answer of an item: its token, or the place and the carry of its refusal.
-fn put_item(i: Item, answer: &mut [usize]) -> Result<(), u32>
-    requires { length answer.old ≡ answer_size }
-    ensures { (spec.number result ≡ spec.item_number i) × (answer.new ≡ spec.item_answer i) }
+// Writes the answer of a reading: its token and value, or the place and the carry of its refusal.
+fn put_read(read: Read, place: usize, answer: &mut [usize]) -> Result<(), u32>
+    requires sized { length answer.old ≡ answer_size }
+    requires short { cell_count read ≤ max_chars }
+    ensures { (spec.number result ≡ spec.kind_number (kind_from read)) × (answer.new ≡ spec.coded_answer read place) }
 {
-    let extra = i.extra as usize;
-    if i.is_refusal {
-        Answer {
-            place: i.position,
-            extra,
-            ..Answer::EMPTY
+    let value = Value::of(read);
+    let told = Answer {
+        place,
+        length: value.length,
+        before: value.before,
+        after: value.after,
+        exponent: value.exponent,
+        extra: value.extra as usize,
+        ..Answer::EMPTY
+    };
+    match item::kind(read) {
+        Ok(token) => {
+            Answer {
+                token_type: token as usize,
+                ..told
+            }
+            .write(answer);
+            Ok(())
         }
-        .write(answer);
-        return Err(i.number);
+        Err(refusal) => {
+            told.write(answer);
+            Err(refusal)
+        }
     }
-    Answer {
-        place: i.position,
-        token_type: i.number as usize,
-        length: i.length,
-        before: i.before,
-        after: i.after,
-        exponent: i.exponent,
-        extra,
-        items: 0,
-    }
-    .write(answer);
-    Ok(())
 }
 
 // The next token of a text: its value fills the output's front, and the lexer's numbers are those of the state after it.
@@ -74,8 +82,7 @@ pub extern "C" fn feel_next_token(
             };
             let c = tokens::call::next_token(l, text, lent, out, scratch);
             state::put_lexer(lexer, c.next);
-            let item = Item::new(c.read, c.place, c.next.flags, 0);
-            answer::number(put_item(item, answer))
+            answer::number(put_read(c.read, c.place, answer))
         }
         Err(refusal) => {
             call::clear(scratch);

@@ -22,13 +22,16 @@ use Rattle.scope.specs.Lent.{Lent, is_broken, scope_of}
 use Rattle.lexer.specs.Flags.{Flags, no_flags}
 use Rattle.lexer.specs.Token.{read_token}
 use Rattle.lexer.specs.TokenType
-use Rattle.runs.specs.declared.call.Made.{Made}
-use Rattle.runs.specs.declared.call.Made.TheVariants as variant
+use Rattle.runs.specs.declared.call.Counts.{Counts}
+use Rattle.runs.proofs.RunCallLaws.{made_of, refused_by}
+use Rattle.std.specs.Prelude.{Result, Ok, Err}
+use Rattle.text.specs.Refusals.{number_of}
+use Rattle.text.specs.declared.refusal.Refusal.{Refusal}
 use Rattle.runs.specs.Item.{Item}
 use Rattle.runs.specs.Run.{run_items}
 use Rattle.runs.specs.Record.{rows_from, store_of, pack, unpack}
 use Rattle.runs.specs.Calls.{Room, made, room_after, run_call, run_record}
-use Rattle.runs.specs.Ran.{answer_of, Ran}
+use Rattle.runs.specs.Ran.{numbered, answer_of, Ran}
 use Rattle.runs.specs.Print.{lines, refused_line, printed_of, printed}
 use Rattle.runs.proofs.RecordLaws.{row_count_lem, unpacked}
 use Rattle.runs.proofs.CallLaws.{checked_made}
@@ -127,24 +130,27 @@ recorded is n rows store e =
     let back : unpack (record { rows = take n (front R rows); store = front S store }) ≡ is = rw (e, take-append_seam R (drop (length R) rows)) (unpacked (drop (length S) store) is) in
     record { within = omega arith; back = back; fits = rw back (omega (arith, lines_short 0 is, row_count_lem 0 is)) }
 
-module _ {l : Lent} {k : ℕ} {f : Flags} {t : List ℕ} {room : Room} {r : Made} {room' : Room} (ran : Ran l k f t room r room') {s : entries.ParsingScope} (scope : scope_of l ≡ s)
+module _ {l : Lent} {k : ℕ} {f : Flags} {t : List ℕ} {room : Room} {r : Result Counts Refusal} {room' : Room} (ran : Ran l k f t room r room') {s : entries.ParsingScope} (scope : scope_of l ≡ s)
     (whole : is_broken l ≡ false) (short : length t ≤ max_input) (rows_long : max_input + 2 ≤ length room.rows) (store_long : max_input ≤ length room.store) (scratch_long : 2 * max_input ≤ length room.scratch) where
   called : run_call l room k f t ≡ made (pack (run_items (read_token (is_name s)) k f t))
   called =
       checked_made l room (length t) (run_record (scope_of l) k f t) (record { within = omega arith; whole = whole; rows_long = omega arith; store_long = omega arith; scratch_long = omega arith })
       ∙ ap (λ s. made (run_record s k f t)) scope
 
-  pub run-recorded : {n c : ℕ} → r ≡ variant.Record n c → Recorded (run_items (read_token (is_name s)) k f t) n room'.rows room'.store
-  run-recorded {n} {c} e =
-      let is = run_items (read_token (is_name s)) k f t in
-      let q : variant.Record n c ≡ variant.Record (length (rows_from 0 is)) (length (store_of is)) = sym e ∙ ran.answer ∙ ap answer_of called in
-      let z : n ≡ length (rows_from 0 is) = cc q in
-      let w : room' ≡ room_after (made (pack is)) room = ran.left ∙ ap (λ a. room_after a room) called in
-      subst (λ x. Recorded is n x.rows x.store) (sym w) (recorded is n room.rows room.store z)
+  -- The answer is that of the run's record.
+  abbrev pub counts : Counts
+  counts = let is = run_items (read_token (is_name s)) k f t in record { items = length (rows_from 0 is); cells = length (store_of is) }
 
-  pub run-taken : {m : ℕ} → r ≡ variant.Refused m → ⊥
-  run-taken {m} e =
+  pub run-recorded : {c : Counts} → r ≡ Ok c → Recorded (run_items (read_token (is_name s)) k f t) c.items room'.rows room'.store
+  run-recorded {c} e =
       let is = run_items (read_token (is_name s)) k f t in
-      let q : variant.Refused m ≡ variant.Record (length (rows_from 0 is)) (length (store_of is)) = sym e ∙ ran.answer ∙ ap answer_of called in
-      let z : ◌≡◌ {A = ℕ} 0 1 = cc q in
-      omega arith
+      let q : made_of c ≡ made_of counts = sym (ap numbered e) ∙ ran.answer ∙ ap answer_of called in
+      let y : c ≡ counts = cc in
+      let z : c.items ≡ length (rows_from 0 is) = ap (λ x. x.items) y in
+      let w : room' ≡ room_after (made (pack is)) room = ran.left ∙ ap (λ a. room_after a room) called in
+      subst (λ x. Recorded is c.items x.rows x.store) (sym w) (recorded is c.items room.rows room.store z)
+
+  pub run-taken : {m : Refusal} → r ≡ Err m → ⊥
+  run-taken {m} e =
+      let q : refused_by (number_of m) ≡ made_of counts = sym (ap numbered e) ∙ ran.answer ∙ ap answer_of called in
+      cc

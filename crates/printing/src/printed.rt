@@ -14,8 +14,9 @@ use crate::line;
 use crate::print::MAX_INPUT;
 use lexer::flags::Flags;
 use lexer::token_type::TokenType;
-use runs::call::Made;
 use runs::item::Item;
+use runs::room::Room;
+use scope::lent::Lent;
 use scope::scope::{Scope, Slot};
 
 // Writes the lines of the record of the first n cells. The default scope has no names, so its rows are never read.
@@ -35,20 +36,26 @@ fn put_record(cells: &[u32], n: usize, out: &mut [u32]) -> usize
         till_in: false,
         after_dot: false,
     };
+    let scope = Lent {
+        counts: Scope::opened(),
+        slots: &slots,
+        names: &names,
+    };
+    let mut room = Room {
+        rows: &mut rows,
+        store: &mut store,
+        scratch: &mut scratch,
+    };
     let made = runs::run::run(
         &cells[..n],
         TokenType::START_EXPRESSION,
         flags,
-        Scope::opened(),
-        &slots,
-        &names,
-        &mut rows,
-        &mut store,
-        &mut scratch,
+        scope,
+        &mut room,
     );
     match made {
-        Made::Record(count, _) => line::put_lines(&rows, count, &store, out),
-        Made::Refused(_) => 0,
+        Ok(counts) => line::put_lines(&rows, counts.items, &store, out),
+        Err(_) => 0,
     }
 }
 

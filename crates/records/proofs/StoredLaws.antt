@@ -39,19 +39,6 @@ abbrev row_with : Bool → spec.Flags → ℕ → List ℕ → List ℕ
 row_with b f n r =
     bit b ∷ get_or r number_at 0 ∷ get_or r position_at 0 ∷ flag_bits f ∷ get_or r reach_at 0 ∷ get_or r start_at 0 ∷ n ∷ get_or r before_at 0 ∷ get_or r after_at 0 ∷ get_or r exponent_at 0 ∷ get_or r extra_at 0 ∷ []
 
-pub stored_flags : (r : List ℕ) {f : Flags} → flags_of f ≡ bit_flags (get_or r flags_at 0) → stored_with (eqb (get_or r refused_at 0) 1) (flags_of f) r ≡ stored_of r
-stored_flags r e = ap (λ g. stored_with (eqb (get_or r refused_at 0) 1) g r) e
-
-byte_is : (b : Bool) → bool_byte b ≡ bit b
-byte_is true = refl
-byte_is false = refl
-
-pub row-flags : (i : Stored) {n : ℕ} → n ≡ flag_bits (flags_of i.flags)
-    → bool_byte i.refused ∷ i.number ∷ i.position ∷ n ∷ i.reach ∷ i.start ∷ i.length ∷ i.before ∷ i.after ∷ i.exponent ∷ i.extra ∷ [] ≡ row_from i
-row-flags i {n} e =
-    ap (λ m. bool_byte i.refused ∷ i.number ∷ i.position ∷ m ∷ i.reach ∷ i.start ∷ i.length ∷ i.before ∷ i.after ∷ i.exponent ∷ i.extra ∷ []) e
-    ∙ ap (λ m. m ∷ i.number ∷ i.position ∷ flag_bits (flags_of i.flags) ∷ i.reach ∷ i.start ∷ i.length ∷ i.before ∷ i.after ∷ i.exponent ∷ i.extra ∷ []) (byte_is i.refused)
-
 -- What is written reads back as the same item.
 pub stored_back : (i : Stored) → stored_of (row_from i) ≡ i
 stored_back i =

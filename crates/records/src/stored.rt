@@ -3,11 +3,10 @@ ghost use Rattle.std.specs.Prelude.{◌≡◌};
 ghost use Rattle.records.specs.Stored.{stored_of, row_from};
 
 use lexer::flags::Flags;
-use runs::item;
-use runs::item::Item;
+use runs::item::{Item, Row};
 
 // 01: type or refusal, position and flags after, and reach; the value's start and length in the store, a number's three lengths, and a Boolean, a sign or a carry.
-#[derive(Clone, Copy)]
+#[derive(Clone, Copy, Default)]
 pub struct Stored {
     pub refused: bool,
     pub number: u32,
@@ -22,44 +21,44 @@ pub struct Stored {
     pub extra: u32,
 }
 
-// The stored item of a row.
 // Ruled out, among others: the reach taken for the position; a flag taken for its neighbour.
-pub fn item_of(row: [u32; Item::NUMBERS]) -> Stored
-    ensures { result ≡ stored_of row }
-{
-    let flags = item::bit_flags(row[Item::FLAGS]);
-    Stored {
-        refused: row[Item::REFUSED] == 1,
-        number: row[Item::NUMBER],
-        position: row[Item::POSITION],
-        flags,
-        reach: row[Item::REACH],
-        start: row[Item::START],
-        length: row[Item::LENGTH],
-        before: row[Item::BEFORE],
-        after: row[Item::AFTER],
-        exponent: row[Item::EXPONENT],
-        extra: row[Item::EXTRA],
+impl From<Row> for Stored {
+    ghost from_gives = { λ row it. it ≡ stored_of row };
+
+    fn from(row: Row) -> Stored {
+        Stored {
+            refused: row[Item::REFUSED] == 1,
+            number: row[Item::NUMBER],
+            position: row[Item::POSITION],
+            flags: Flags::from_bits(row[Item::FLAGS]),
+            reach: row[Item::REACH],
+            start: row[Item::START],
+            length: row[Item::LENGTH],
+            before: row[Item::BEFORE],
+            after: row[Item::AFTER],
+            exponent: row[Item::EXPONENT],
+            extra: row[Item::EXTRA],
+        }
     }
 }
 
-// The row of a stored item.
 // Ruled out, among others: a value's start left out; the flags of another item.
-pub fn row_of(it: Stored) -> [u32; Item::NUMBERS]
-    ensures { result ≡ row_from it }
-{
-    let flags = item::flag_bits(it.flags);
-    [
-        it.refused as u32,
-        it.number,
-        it.position,
-        flags,
-        it.reach,
-        it.start,
-        it.length,
-        it.before,
-        it.after,
-        it.exponent,
-        it.extra,
-    ]
+impl From<Stored> for Row {
+    ghost from_gives = { λ it row. row ≡ row_from it };
+
+    fn from(it: Stored) -> Row {
+        [
+            u32::from(it.refused),
+            it.number,
+            it.position,
+            u32::from(it.flags),
+            it.reach,
+            it.start,
+            it.length,
+            it.before,
+            it.after,
+            it.exponent,
+            it.extra,
+        ]
+    }
 }

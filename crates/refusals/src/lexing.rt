@@ -8,7 +8,6 @@ use crate::{filled, lent, told};
 use lexer::flags::Flags;
 use lexer::token::Read;
 use lexer::token_type::TokenType;
-use runs::item;
 use scope::lent::Lent;
 use scope::scope::{Scope, Slot};
 use std::io;
@@ -18,7 +17,7 @@ use tokens::call::{Called, Lexer};
 
 // All flags are set.
 fn state(position: usize, pending: bool) -> Lexer {
-    let flags = item::bit_flags(Flags::ALL);
+    let flags = Flags::from_bits(Flags::ALL);
     Lexer {
         position,
         flags,
@@ -70,7 +69,7 @@ fn value_cells(r: Read) -> usize {
 
 fn state_after(rt: &impl Print, l: Lexer) -> io::Result<()> {
     told::number(rt, b"; position ", l.position)?;
-    told::number(rt, b", flags ", item::flag_bits(l.flags) as usize)?;
+    told::number(rt, b", flags ", u32::from(l.flags) as usize)?;
     if l.due.is_some() {
         return say::words(rt, b", start due");
     }

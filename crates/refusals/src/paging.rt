@@ -17,14 +17,18 @@ fn ends(rt: &impl Print, first: u32, last: u32) -> io::Result<()> {
     told::number(rt, b", last ", wide(last))
 }
 
-// The answer, and the ends: those of the rows, or 0 where the page is as it was.
-fn answer(rt: &impl Print, p: Page) -> io::Result<()> {
-    if p.refusal == Refusal::NONE {
-        say::words(rt, b"read")?;
-    } else {
-        told::refused(rt, p.refusal)?;
+// The answer, and the ends: those of the rows, or 0 where no page was read.
+fn answer(rt: &impl Print, r: Result<Page, Refusal>) -> io::Result<()> {
+    match r {
+        Ok(p) => {
+            say::words(rt, b"read")?;
+            ends(rt, p.items[0].number, p.items[Page::ITEMS - 1].number)?;
+        }
+        Err(refusal) => {
+            told::refused(rt, u32::from(refusal))?;
+            ends(rt, 0, 0)?;
+        }
     }
-    ends(rt, p.items[0].number, p.items[Page::ITEMS - 1].number)?;
     say::words(rt, b"\n")
 }
 
@@ -66,12 +70,12 @@ fn rows_front(
         return Ok(());
     }
     told::numbers(rt, &[n])?;
-    let refusal = page::rows_of(p, &mut rows[..n]);
-    if refusal == Refusal::NONE {
-        written(rt, rows)?;
-    } else {
-        told::refused(rt, refusal)?;
-        told::kept(rt, b"; rows", filled::are_filled(rows, 0, FILL))?;
+    match page::rows_of(p, &mut rows[..n]) {
+        Ok(()) => written(rt, rows)?,
+        Err(refusal) => {
+            told::refused(rt, u32::from(refusal))?;
+            told::kept(rt, b"; rows", filled::are_filled(rows, 0, FILL))?;
+        }
     }
     say::words(rt, b"\n")
 }
@@ -80,7 +84,10 @@ fn rows_front(
 fn page_rows(rt: &impl Print, n: usize) -> io::Result<()> {
     let read = [[5; Item::NUMBERS]; Page::ITEMS];
     let mut rows = [[FILL; Item::NUMBERS]; Page::ITEMS + 1];
-    rows_front(rt, page::page_of(&read), &mut rows, n)
+    match page::page_of(&read) {
+        Ok(p) => rows_front(rt, p, &mut rows, n),
+        Err(_) => Ok(()),
+    }
 }
 
 pub fn tried(rt: &impl Print) -> io::Result<()> {

@@ -2,7 +2,11 @@
 use crate::lent::FILL;
 use crate::{filled, lent, rows, told};
 use lexer::token_type::TokenType;
+use repair::request;
 use runs::item::Item;
+use runs::record::Record;
+use runs::room::Room;
+use scope::lent::Lent;
 use std::io;
 use text::utf8::Text;
 
@@ -83,21 +87,28 @@ fn repair_front(
     }
     let slots = lent::slots();
     let names = lent::names();
-    let made = repair::repair::repair(
-        q.length,
-        old,
-        values,
-        q.from,
-        q.to,
-        q.size,
-        &new[..part],
-        told::empty_scope(q.contexts),
-        &slots,
-        &names,
-        &mut all[..items],
-        &mut store[..cells],
-        &mut free[..scratch],
-    );
+    let request = request::Request {
+        old_length: q.length,
+        old: Record {
+            rows: old,
+            store: values,
+        },
+        from: q.from,
+        to: q.to,
+        size: q.size,
+        part: &new[..part],
+    };
+    let scope = Lent {
+        counts: told::empty_scope(q.contexts),
+        slots: &slots,
+        names: &names,
+    };
+    let mut room = Room {
+        rows: &mut all[..items],
+        store: &mut store[..cells],
+        scratch: &mut free[..scratch],
+    };
+    let made = repair::repair::repair(request, scope, &mut room);
     let zero = filled::is_filled(&free[..scratch], 0, 0);
     rows::answer(rt, made, all, store, zero)
 }

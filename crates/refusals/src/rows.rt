@@ -1,9 +1,10 @@
 // The answer of a run or a repair printed, with its record.
 use crate::lent::FILL;
 use crate::{filled, opening, told};
-use runs::call::Made;
+use runs::call::Counts;
 use runs::item::Item;
 use std::io;
+use text::refusal::Refusal;
 
 // The first n rows.
 fn rows(rt: &impl Print, all: &[[u32; Item::NUMBERS]], n: usize) -> io::Result<()> {
@@ -41,19 +42,19 @@ fn made(
 // The answer for rows and a store that were filled before the call; whether scratch is zero after it.
 pub fn answer(
     rt: &impl Print,
-    r: Made,
+    r: Result<Counts, Refusal>,
     all: &[[u32; Item::NUMBERS]],
     store: &[u32],
     zero: bool,
 ) -> io::Result<()> {
     match r {
-        Made::Record(n, k) => {
-            made(rt, all, n, store, k)?;
+        Ok(Counts { items, cells }) => {
+            made(rt, all, items, store, cells)?;
             told::cleared(rt, zero)?;
-            rows(rt, all, n)
+            rows(rt, all, items)
         }
-        Made::Refused(n) => {
-            told::refused(rt, n)?;
+        Err(refusal) => {
+            told::refused(rt, u32::from(refusal))?;
             told::kept(rt, b"; rows", filled::are_filled(all, 0, FILL))?;
             told::kept(rt, b", store", filled::is_filled(store, 0, FILL))?;
             told::cleared(rt, zero)

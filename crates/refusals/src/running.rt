@@ -3,8 +3,9 @@ use crate::lent::FILL;
 use crate::{filled, lent, lexing, rows, told};
 use lexer::flags::Flags;
 use lexer::token_type::TokenType;
-use runs::item;
 use runs::item::Item;
+use runs::room::Room;
+use scope::lent::Lent;
 use std::io;
 use text::utf8::Text;
 
@@ -36,16 +37,22 @@ fn run_front(
     }
     let slots = lent::slots();
     let names = lent::names();
+    let scope = Lent {
+        counts: told::empty_scope(contexts),
+        slots: &slots,
+        names: &names,
+    };
+    let mut room = Room {
+        rows: &mut all[..items],
+        store: &mut store[..values],
+        scratch: &mut free[..scratch],
+    };
     let made = runs::run::run(
         &text[..n],
         TokenType::START_EXPRESSION,
-        item::bit_flags(flags),
-        told::empty_scope(contexts),
-        &slots,
-        &names,
-        &mut all[..items],
-        &mut store[..values],
-        &mut free[..scratch],
+        Flags::from_bits(flags),
+        scope,
+        &mut room,
     );
     let zero = filled::is_filled(&free[..scratch], 0, 0);
     rows::answer(rt, made, all, store, zero)

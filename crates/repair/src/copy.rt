@@ -13,14 +13,7 @@ use runs::record::Record;
 use runs::room::Room;
 
 // Writes a row to the place `at`, with another position, reach and value start.
-pub fn put_moved(
-    rows: &mut [Row],
-    at: usize,
-    row: Row,
-    position: usize,
-    reach: usize,
-    start: usize,
-)
+pub fn put_moved(rows: &mut [Row], at: usize, row: Row, position: usize, reach: usize, start: usize)
     requires { (at < length rows.old) × (position < 4_294_967_296) × (reach < 4_294_967_296) × (start < 4_294_967_296) }
     ensures { rows.new ≡ set rows.old at (moved_row row position reach start) }
 {

@@ -9,8 +9,9 @@ use Rattle.scope.specs.Lent.{Lent, scope_of}
 use Rattle.scope.specs.Keys.{is_name}
 use Rattle.lexer.specs.Flags.{Flags}
 use Rattle.lexer.specs.Token.{read_token}
-use Rattle.runs.specs.declared.call.Made.{Made}
-use Rattle.runs.specs.declared.call.Made.TheVariants as variant
+use Rattle.std.specs.Prelude.{Result, Ok}
+use Rattle.text.specs.declared.refusal.Refusal.{Refusal}
+use Rattle.runs.specs.declared.call.Counts.{Counts}
 use Rattle.runs.specs.Run.{run_items}
 use Rattle.runs.specs.Edit.{Edit, edited}
 use Rattle.runs.specs.Repair.{last_kept}
@@ -28,8 +29,8 @@ use Rattle.records.proofs.StoredLaws.{rows_back}
 use Rattle.records.proofs.ReadBack.{copied_back}
 
 -- `run` has made a record, `read_items` has read its rows, and `write_items` has written the items that it read; none was refused.
-module _ (lent : Lent) (k : ℕ) (f : Flags) (old : List ℕ) (first : Room) {left : Room} {n m : ℕ} (ran : Ran lent k f old first (variant.Record n m) left)
-    {xs items : List Stored} (read : Copies stored_of (take n left.rows) xs 0 items) {ys rows : List (List ℕ)} (written : Copies row_from (take n items) ys 0 rows) where
+module _ (lent : Lent) (k : ℕ) (f : Flags) (old : List ℕ) (first : Room) {left : Room} {n m : ℕ} (ran : Ran lent k f old first (Ok (record { items = n; cells = m })) left)
+    {xs items : List Stored} (read : Copies stored_of (take n left.rows) xs (Ok tt) items) {ys rows : List (List ℕ)} (written : Copies row_from (take n items) ys (Ok tt) rows) where
   abbrev record_of : Record
   record_of = run_record (scope_of lent) k f old
 
@@ -50,7 +51,7 @@ module _ (lent : Lent) (k : ℕ) (f : Flags) (old : List ℕ) (first : Room) {le
   pub same_rows : take n rows ≡ take n left.rows
   same_rows =
       ap (λ (i : ℕ). take i rows) (sym all)
-      ∙ copied_back stored_of row_from (take n left.rows) again read (subst (λ (i : ℕ). Copies row_from (take i items) ys 0 rows) (sym all) written)
+      ∙ copied_back stored_of row_from (take n left.rows) again read (subst (λ (i : ℕ). Copies row_from (take i items) ys (Ok tt) rows) (sym all) written)
 
   module _ (a b : ℕ) (put : List ℕ) where
     abbrev edit : Edit
@@ -70,7 +71,7 @@ module _ (lent : Lent) (k : ℕ) (f : Flags) (old : List ℕ) (first : Room) {le
     same-request = ap ask same_rows
 
     -- The whole answer, every cell of the three slices, and the items that are read of any of the rows.
-    pub items_agree : a ≤ b → b ≤ length old → (room : Room) {r r' : Made} {after after' : Room} → Repaired lent handed room r after → Ran lent k f new room r' after'
+    pub items_agree : a ≤ b → b ≤ length old → (room : Room) {r r' : Result Counts Refusal} {after after' : Room} → Repaired lent handed room r after → Ran lent k f new room r' after'
         → (r ≡ r') × (after ≡ after') × ((i : ℕ) (zs : List Stored) → copied stored_of (take i after.rows) zs ≡ copied stored_of (take i after'.rows) zs)
     items_agree ordered within room {r} {after = after} p q =
         let e = calls.calls_agree lent k f old first ran a b put ordered within room (subst (λ (x : Request). Repaired lent x room r after) same-request p) q in

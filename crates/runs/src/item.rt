@@ -4,7 +4,7 @@ ghost use Rattle.text.specs.Limits.{max_chars};
 ghost use Rattle.lexer.specs.Answered.{cell_count};
 ghost use Rattle.lexer.specs.Read.{is_last};
 ghost use Rattle.runs.specs.Record.{refused_at, number_at};
-ghost use Rattle.runs.specs.Coded.{Small, row_from};
+ghost use Rattle.runs.specs.Coded.{kind_from, value_from, Small, row_from};
 
 use lexer::flags::Flags;
 use lexer::token::Read;
@@ -49,42 +49,17 @@ impl Item {
     // How many numbers a row has.
     pub const NUMBERS: usize = 11;
 
-    // How many cells the value has.
-    // Ruled out, among others: a number counted without its exponent.
-    pub fn cell_count(self) -> usize
-        requires { cell_count self.read ≤ max_chars }
-        ensures { result ≡ cell_count self.read }
-    {
-        match self.read {
-            Read::Numeric(before, after, _, exponent) => before + after + exponent,
-            Read::Chars(_, n) => n,
-            _ => 0,
-        }
-    }
-
     // The row of the item, whose value starts at `start`.
     // Ruled out, among others: a number cut off at 32 bits; a row that keeps what an earlier run wrote where this item has nothing.
     pub fn row(self, start: usize) -> Row
         requires { Small self × (start ≤ max_chars) }
         ensures { result ≡ row_from start self }
     {
-        let length = self.cell_count() as u32;
-        let (refused, number, [before, after, exponent, extra]) = match self.read {
-            Read::Plain(k) => (false, k, [0; 4]),
-            Read::Boolean(b) => (false, TokenType::BOOLEAN, [0, 0, 0, u32::from(b)]),
-            Read::Numeric(before, after, minus, exponent) => (
-                false,
-                TokenType::NUMERIC,
-                [
-                    before as u32,
-                    after as u32,
-                    exponent as u32,
-                    u32::from(minus),
-                ],
-            ),
-            Read::Chars(k, _) => (false, k, [0; 4]),
-            Read::Refused(n, carry) => (true, n, [0, 0, 0, carry]),
+        let (refused, number) = match kind(self.read) {
+            Ok(token) => (false, token),
+            Err(refusal) => (true, refusal),
         };
+        let value = Value::of(self.read);
         [
             u32::from(refused),
             number,
@@ -92,12 +67,66 @@ impl Item {
             u32::from(self.flags),
             self.reach as u32,
             start as u32,
-            length,
-            before,
-            after,
-            exponent,
-            extra,
+            value.length as u32,
+            value.before as u32,
+            value.after as u32,
+            value.exponent as u32,
+            value.extra,
         ]
+    }
+}
+
+// The type of a token, or the number of a refusal.
+// Ruled out, among others: a refusal taken for a token; a Boolean told as a number.
+pub fn kind(read: Read) -> Result<u32, u32>
+    ensures { result ≡ kind_from read }
+{
+    match read {
+        Read::Plain(token) | Read::Chars(token, _) => Ok(token),
+        Read::Boolean(_) => Ok(TokenType::BOOLEAN),
+        Read::Numeric(..) => Ok(TokenType::NUMERIC),
+        Read::Refused(refusal, _) => Err(refusal),
+    }
+}
+
+// The numbers of a value: how many cells it has, a number's three lengths, and a Boolean, a sign or a carry.
+#[derive(Clone, Copy, Default)]
+pub struct Value {
+    pub length: usize,
+    pub before: usize,
+    pub after: usize,
+    pub exponent: usize,
+    pub extra: u32,
+}
+
+impl Value {
+    // Ruled out, among others: a number counted without its exponent; a carry left out.
+    pub fn of(read: Read) -> Value
+        requires { cell_count read ≤ max_chars }
+        ensures { result ≡ value_from read }
+    {
+        match read {
+            Read::Plain(_) => Value::default(),
+            Read::Boolean(b) => Value {
+                extra: u32::from(b),
+                ..Value::default()
+            },
+            Read::Numeric(before, after, minus, exponent) => Value {
+                length: before + after + exponent,
+                before,
+                after,
+                exponent,
+                extra: u32::from(minus),
+            },
+            Read::Chars(_, length) => Value {
+                length,
+                ..Value::default()
+            },
+            Read::Refused(_, carry) => Value {
+                extra: carry,
+                ..Value::default()
+            },
+        }
     }
 }
 

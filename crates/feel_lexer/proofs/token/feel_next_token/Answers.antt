@@ -8,8 +8,8 @@ use Rattle.feel_lexer.proofs.token.feel_next_token.Goals as goal
 pub put_lexer-requires : goal.put_lexer-requires
 put_lexer-requires c = lexer_sized _ (both _ _ c.in-Ok.ensures.0).1
 
-pub new-item-requires : goal.new-item-requires
-new-item-requires c =
+pub put_read-requires-clause-short : goal.put_read-requires-clause-short
+put_read-requires-clause-short c =
     let a = c.args in
     value_short a.lexer.now a.scope.now a.slots.now a.names.now a.text.now a.out.now a.scratch.now a.answer.now c.in-Ok.l c.in-Ok.ensures.1 c.scope_of-s.result c.scope_of-s.ensures c.next_token-c.ensures
 
@@ -17,4 +17,4 @@ pub returns-in-Ok : goal.returns-in-Ok
 returns-in-Ok c =
     let a = c.args in
     token_taken a.lexer.now a.scope.now a.slots.now a.names.now a.text.now a.out.now a.scratch.now a.answer.now c.in-Ok.l c.in-Ok.ensures.1 c.scope_of-s.result c.scope_of-s.ensures c.next_token-c.ensures
-    c.in-Ok.ensures.0 c.put_lexer.ensures _ c.new-item.ensures (c.number.ensures ∙ c.put_item.ensures.0) c.put_item.ensures.1
+    c.in-Ok.ensures.0 c.put_lexer.ensures (c.number.ensures ∙ c.put_read.ensures.0) c.put_read.ensures.1

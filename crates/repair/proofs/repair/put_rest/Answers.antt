@@ -29,4 +29,4 @@ returns-clause-behind c =
     let t = c.read_to_match-m.ensures.to_match in
     let p = kept_place a c.requires.1 in
     let b = rw (rest-is a t p c.requires.3 c.requires.4) at c.copy_items.ensures.behind in
-    rest_all a t p c.requires.3 c.requires.4 (c.args.k - 1) refl c.bit_flags-flags.ensures b
+    rest_all a t p c.requires.3 c.requires.4 (c.args.k - 1) refl c.from_bits-flags.ensures b
