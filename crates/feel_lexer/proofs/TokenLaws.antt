@@ -28,9 +28,8 @@ use Rattle.lexer.proofs.AnsweredLaws.{three}
 use Rattle.tokens.specs.CalledBy.{state_of, CalledBy}
 use Rattle.tokens.specs.declared.call.Lexer.{Lexer}
 use Rattle.tokens.specs.declared.call.Called.{Called}
-use Rattle.runs.specs.Coded.{kind_from}
 use Rattle.feel_lexer.specs.Numbers.{counts_of, lent_of, state_at, lexer_numbers, is_lexer}
-use Rattle.feel_lexer.specs.Exported.{is_answer, feel_next_token, refusal_number, read_answer, kind_number, coded_answer}
+use Rattle.feel_lexer.specs.Exported.{is_answer, feel_next_token, refusal_number, read_answer, number_from, answer_from}
 
 module _ (l : Lent) (s : State) (t output scratch : List ℕ) where
   step_short : length t ≤ max_chars → length (cells_of (step (scope_of l) s t).read) ≤ max_chars
@@ -63,9 +62,9 @@ whole_parts a b c o e =
     let z = length-take c (drop (a + b) o) in
     (omega arith, omega arith, omega arith)
 
--- The code tells of an answer what that says was read.
+-- What is told of the code's answer is what is told of what that says was read.
 abbrev pub Same : Answer → Read → ℕ → Type 0
-Same a x p = (kind_number (kind_from a) ≡ refusal_number x) × (coded_answer a p ≡ read_answer x p)
+Same a x p = (number_from a ≡ refusal_number x) × (answer_from a p ≡ read_answer x p)
 
 of_case : (a : Answer) (o : List ℕ) → cell_count a ≡ length (cells_of (read_of a o)) → (p : ℕ) → Same a (read_of a o) p
 of_case (Plain k) o e p = (refl, refl)
@@ -74,8 +73,8 @@ of_case (Numeric before after minus exponent) o e p = let w = whole_parts before
 of_case (Chars k n) o e p = (refl, rw (← e))
 of_case (Refused n c) o e p = (refl, refl)
 
-pub same_read : {a : Answer} {o : List ℕ} {x : Read} → Says a o x → (p : ℕ) → Same a x p
-same_read {a} {o} {x} s p = subst (λ y. Same a y p) s.means (of_case a o (s.size ∙ ap (λ y. length (cells_of y)) (sym s.means)) p)
+pub same_answer : {a : Answer} {o : List ℕ} {x : Read} → Says a o x → (p : ℕ) → Same a x p
+same_answer {a} {o} {x} s p = subst (λ y. Same a y p) s.means (of_case a o (s.size ∙ ap (λ y. length (cells_of y)) (sym s.means)) p)
 
 -- The call on what the numbers stand for, with the answer that is told of it.
 module _ (lexer scope : List ℕ) (slots names : List (List ℕ)) (text output scratch ns : List ℕ) where
@@ -92,10 +91,10 @@ module _ (lexer scope : List ℕ) (slots names : List (List ℕ)) (text output s
     pub value_short : cell_count c.read ≤ max_chars
     value_short = omega (arith, called_at.read.size, next_short (lent_of scope slots names) (state_at lexer) text output scratch)
 
-    pub token_taken : is_answer ns && is_lexer lexer ≡ true → {lexer' : List ℕ} → lexer' ≡ lexer_numbers (state_of c.next) → {n : ℕ} {ns' : List ℕ} → n ≡ kind_number (kind_from c.read) → ns' ≡ coded_answer c.read c.place
+    pub token_taken : is_answer ns && is_lexer lexer ≡ true → {lexer' : List ℕ} → lexer' ≡ lexer_numbers (state_of c.next) → {n : ℕ} {ns' : List ℕ} → n ≡ number_from c.read → ns' ≡ answer_from c.read c.place
         → feel_next_token lexer text scope slots names output scratch ns ≡ record { number = n; lexer = lexer'; output = output'; scratch = scratch'; answer = ns' }
     token_taken h {lexer'} e k m =
         let w = called_at in
         let v : lexer' ≡ lexer_numbers answered.next = e ∙ ap lexer_numbers w.next in
-        let y = same_read w.read c.place in
+        let y = same_answer w.read c.place in
         rw (h, v, k, m, y.0, y.1, w.place, w.left, w.clean)

@@ -2,7 +2,10 @@
 -- Refused first, with 9 and place 0: an answer or a lexer that is not of its form; what the calls below refuse comes behind, a scope of another size as any broken one.
 use Rattle.std.specs.Prelude.{◌≡◌, Bool, true, false, cond, ◌&&◌, List, [], ◌∷◌, ℕ, ◌+◌, ◌≤◌, eqb, leb, length, Option, None, Some, Result, Ok, Err}
 use Rattle.reading.specs.Slices.{front, zeros}
-use Rattle.text.specs.Refusals.{short_slice, broken_scope, number_of}
+use Rattle.text.specs.Refusals.{short_slice, broken_scope}
+use Rattle.text.specs.Refusals as refusal
+use Rattle.text.specs.declared.refusal.Refusal.{Refusal}
+use Rattle.text.specs.declared.refusal.Refusal.TheVariants.{ShortSlice}
 use Rattle.text.specs.Utf8 as utf8
 use Rattle.scope.specs.Limits.{max_entries, max_parsed}
 use Rattle.scope.specs.Entries as entries
@@ -11,13 +14,14 @@ use Rattle.scope.specs.Calls as calls
 use Rattle.scope.specs.Answers.{Answer as Changed}
 use Rattle.scope.specs.declared.scope.Scope.{Scope}
 use Rattle.scope.specs.Lent.{is_broken, scope_of, on_scope}
-use Rattle.lexer.specs.Read.{Read, token, refused, cells_of}
+use Rattle.lexer.specs.Answered.{read_of, cell_count}
+use Rattle.lexer.specs.declared.token.Read.{Read as Answered}
+use Rattle.lexer.specs.Read.{Read, token, refused, is_refused, number_of, cells_of}
 use Rattle.lexer.specs.Lexer.{Called as TokenCalled, next_token}
 use Rattle.tokens.specs.CalledBy.{state_of}
 use Rattle.tokens.specs.declared.call.Lexer.{Lexer}
 use Rattle.runs.specs.Item.{lengths_of, extra_of}
-use Rattle.lexer.specs.declared.token.Read.{Read as Coded}
-use Rattle.runs.specs.Coded.{kind_from, value_from}
+use Rattle.runs.specs.Coded.{lengths_from}
 use Rattle.runs.specs.declared.call.Counts.{Counts}
 use Rattle.runs.specs.Record.{bit_flags}
 use Rattle.runs.specs.Request.{Request}
@@ -34,8 +38,8 @@ abbrev pub told : List ℕ → List ℕ → List ℕ
 told row ns = cond (is_answer ns) row ns
 
 -- The answer's size is checked, and what else must hold. An answer of its size is set to place 0.
-pub record Checked (more : Bool) (ns : List ℕ) (r : Result (Unit {0}) ℕ) (ns' : List ℕ) : Type 0 where
-  pub outcome : r ≡ cond (is_answer ns && more) (Ok tt) (Err short_slice)
+pub record Checked (more : Bool) (ns : List ℕ) (r : Result (Unit {0}) Refusal) (ns' : List ℕ) : Type 0 where
+  pub outcome : r ≡ cond (is_answer ns && more) (Ok tt) (Err ShortSlice)
   pub answer : ns' ≡ told (placed 0 0) ns
 
 -- The numbers of the code's answer, at their places.
@@ -43,9 +47,9 @@ abbrev pub row_of : Answer → List ℕ
 row_of a = answer a.place a.token_type a.length a.before a.after a.exponent a.extra a.items
 
 -- What C gets of a call: the number of its refusal, or 0.
-abbrev pub number : Result (Unit {0}) ℕ → ℕ
+unfoldable pub number : Result (Unit {0}) Refusal → ℕ
 number (Ok x) = 0
-number (Err n) = n
+number (Err e) = refusal.number_of e
 
 -- Opening.
 pub record Opening : Type 0 where
@@ -64,14 +68,14 @@ feel_open bytes cells ns =
 -- What the code of a scope call answers, as a number; and the scope's numbers behind it.
 abbrev pub coded_number : Changed → ℕ
 coded_number (Ok s) = 0
-coded_number (Err e) = number_of e
+coded_number (Err e) = refusal.number_of e
 
 abbrev pub scope_numbers : Changed → List ℕ → List ℕ
 scope_numbers (Ok s) ns = s.contexts ∷ s.entries ∷ s.parsed ∷ []
 scope_numbers (Err e) ns = ns
 
 -- A call is made by a closure on the counts of a scope, where answer and scope have their sizes; what it answers is told and written. `step` says what a call of the closure answers and leaves of it.
-pub record Called {F : Type 0} (step : F → Scope → Changed → F → Type 0) (before : F) (ns scope : List ℕ) (r : Result (Unit {0}) ℕ) (ns' scope' : List ℕ) (after : F) : Type 0 where
+pub record Called {F : Type 0} (step : F → Scope → Changed → F → Type 0) (before : F) (ns scope : List ℕ) (r : Result (Unit {0}) Refusal) (ns' scope' : List ℕ) (after : F) : Type 0 where
   pub answer : ns' ≡ told (placed 0 0) ns
   pub missized : is_answer ns && is_scope scope ≡ false → (number r ≡ cond (is_answer ns) broken_scope short_slice) × (scope' ≡ scope) × (after ≡ before)
   pub made : is_answer ns && is_scope scope ≡ true → (c : Changed) × step before (counts_of scope) c after × (number r ≡ coded_number c) × (scope' ≡ scope_numbers c scope)
@@ -138,23 +142,19 @@ LexerOf ns None = is_lexer ns ≡ false
 LexerOf ns (Some l) = (is_lexer ns ≡ true) × (state_of l ≡ state_at ns)
 
 -- The answer's size was checked, and then the lexer's numbers: none is refused with 9.
-abbrev pub Ready : List ℕ → List ℕ → Result Lexer ℕ → List ℕ → Type 0
+abbrev pub Ready : List ℕ → List ℕ → Result Lexer Refusal → List ℕ → Type 0
 Ready ns a (Ok l) a' = (is_answer a && is_lexer ns ≡ true) × (state_of l ≡ state_at ns) × (a' ≡ placed 0 0)
-Ready ns a (Err n) a' = (is_answer a && is_lexer ns ≡ false) × (n ≡ short_slice) × (a' ≡ told (placed 0 0) a)
+Ready ns a (Err e) a' = (is_answer a && is_lexer ns ≡ false) × (e ≡ ShortSlice) × (a' ≡ told (placed 0 0) a)
 
--- The same of the code's reading.
-abbrev pub kind_type : Result ℕ ℕ → ℕ
-kind_type (Ok k) = k
-kind_type (Err n) = 0
+-- The same of what the code answers, whatever the output holds.
+abbrev pub number_from : Answered → ℕ
+number_from r = refusal_number (read_of r [])
 
-abbrev pub kind_number : Result ℕ ℕ → ℕ
-kind_number (Ok k) = 0
-kind_number (Err n) = n
-
-abbrev pub coded_answer : Coded → ℕ → List ℕ
-coded_answer a place =
-    let v = value_from a in
-    answer place (kind_type (kind_from a)) v.length v.before v.after v.exponent v.extra 0
+abbrev pub answer_from : Answered → ℕ → List ℕ
+answer_from r place =
+    let x = read_of r [] in
+    let three = lengths_from r in
+    cond (is_refused x) (placed place (extra_of x)) (answer place (number_of x) (cell_count r) three.before three.after three.exponent (extra_of x) 0)
 
 -- Run and repair.
 pub record Recorded : Type 0 where
@@ -167,13 +167,13 @@ recorded (runs.made r) room = record { number = 0; room = room_after (runs.made 
 recorded (runs.refused n) room = record { number = n; room = room_after (runs.refused n) room; answer = placed 0 0 }
 
 -- The same of what the code answers.
-abbrev pub made_number : Result Counts ℕ → ℕ
+abbrev pub made_number : Result Counts Refusal → ℕ
 made_number (Ok c) = 0
-made_number (Err n) = n
+made_number (Err e) = refusal.number_of e
 
-abbrev pub made_answer : Result Counts ℕ → List ℕ
+abbrev pub made_answer : Result Counts Refusal → List ℕ
 made_answer (Ok c) = counted c.cells c.items
-made_answer (Err n) = placed 0 0
+made_answer (Err e) = placed 0 0
 
 abbrev pub not_recorded : Room → List ℕ → Recorded
 not_recorded room ns = record { number = short_slice; room = room_after (runs.refused short_slice) room; answer = told (placed 0 0) ns }

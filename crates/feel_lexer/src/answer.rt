@@ -53,26 +53,27 @@ impl Answer {
 }
 
 // The number that C gets: that of the refusal, or 0.
-pub fn number(outcome: Result<(), u32>) -> u32
+#[tactic(auto, unfolding(crate::specs::Exported::number))]
+pub fn number(outcome: Result<(), Refusal>) -> u32
     ensures { result ≡ number outcome }
 {
     match outcome {
         Ok(()) => 0,
-        Err(refusal) => refusal,
+        Err(refusal) => u32::from(refusal),
     }
 }
 
 // Refuses an answer that is not of its size, and what else does not hold. One of its size is set to place 0.
-pub fn checked(answer: &mut [usize], more: bool) -> Result<(), u32>
+pub fn checked(answer: &mut [usize], more: bool) -> Result<(), Refusal>
     ensures { Checked more answer.old result answer.new }
 {
     if answer.len() != Answer::SIZE {
-        return Err(Refusal::SHORT_SLICE);
+        return Err(Refusal::ShortSlice);
     }
     Answer::EMPTY.write(answer);
     if more {
         Ok(())
     } else {
-        Err(Refusal::SHORT_SLICE)
+        Err(Refusal::ShortSlice)
     }
 }

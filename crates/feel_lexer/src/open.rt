@@ -4,28 +4,31 @@ ghost use Rattle.feel_lexer.specs.Exported as spec;
 
 use crate::answer;
 use crate::answer::Answer;
+use text::refusal::Refusal;
+use text::utf8::{Refused, Text};
 
 // Opens the bytes, and writes how many characters there are, or the place of a refusal.
-fn opened(bytes: &[u8], cells: &mut [u32], answer: &mut [usize]) -> Result<(), u32>
+#[tactic(auto, unfolding(crate::specs::Exported::number))]
+fn opened(bytes: &[u8], cells: &mut [u32], answer: &mut [usize]) -> Result<(), Refusal>
     ensures { spec.feel_open bytes.now cells.old answer.old ≡ record { number = spec.number result; cells = cells.new; answer = answer.new } }
 {
     answer::checked(answer, true)?;
     match text::utf8::open_bytes(bytes, cells) {
-        Ok(t) => {
+        Ok(Text { chars }) => {
             Answer {
-                length: t.chars,
+                length: chars,
                 ..Answer::EMPTY
             }
             .write(answer);
             Ok(())
         }
-        Err(r) => {
+        Err(Refused { refusal, place }) => {
             Answer {
-                place: r.place,
+                place,
                 ..Answer::EMPTY
             }
             .write(answer);
-            Err(u32::from(r.refusal))
+            Err(refusal)
         }
     }
 }

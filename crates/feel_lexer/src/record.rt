@@ -1,10 +1,7 @@
 // Run and repair.
-#![tactic(auto, using(crate::proofs::RecordLaws::same_recorded))]
-
 ghost use Rattle.std.specs.Prelude.{◌≡◌};
 ghost use Rattle.repair.specs.Asking.{asked};
 ghost use Rattle.feel_lexer.specs.Numbers.{placed};
-ghost use Rattle.runs.specs.Ran.{numbered};
 ghost use Rattle.feel_lexer.specs.Exported as spec;
 
 use crate::answer::Answer;
@@ -21,22 +18,19 @@ use scope::scope::{Scope, Slot};
 use text::refusal::Refusal;
 
 // Writes how many items and value cells a record has; an answer at place 0 stays so where none was made.
-fn after(made: Result<Counts, Refusal>, answer: &mut [usize]) -> Result<(), u32>
+#[tactic(auto, unfolding(crate::specs::Exported::number))]
+fn after(made: Result<Counts, Refusal>, answer: &mut [usize]) -> Result<(), Refusal>
     requires { answer.old ≡ placed 0 0 }
-    ensures { (spec.number result ≡ spec.made_number (numbered made)) × (answer.new ≡ spec.made_answer (numbered made)) }
+    ensures { (spec.number result ≡ spec.made_number made) × (answer.new ≡ spec.made_answer made) }
 {
-    match made {
-        Ok(Counts { items, cells }) => {
-            Answer {
-                length: cells,
-                items,
-                ..Answer::EMPTY
-            }
-            .write(answer);
-            Ok(())
-        }
-        Err(refusal) => Err(u32::from(refusal)),
+    let Counts { items, cells } = made?;
+    Answer {
+        length: cells,
+        items,
+        ..Answer::EMPTY
     }
+    .write(answer);
+    Ok(())
 }
 
 // The record of a run: its rows and values fill the fronts of rows and store.
@@ -60,20 +54,19 @@ pub extern "C" fn feel_run(
 {
     if let Err(refusal) = answer::checked(answer, flags <= Flags::ALL) {
         call::clear(scratch);
-        return refusal;
+        return u32::from(refusal);
     }
     let lent = Lent {
         counts: state::scope_of(scope),
         slots,
         names,
     };
-    let f = Flags::from_bits(flags);
     let mut room = Room {
         rows,
         store,
         scratch,
     };
-    let made = runs::run::run(text, start_type, f, lent, &mut room);
+    let made = runs::run::run(text, start_type, Flags::from_bits(flags), lent, &mut room);
     answer::number(after(made, answer))
 }
 
@@ -102,13 +95,8 @@ pub extern "C" fn feel_repair(
 {
     if let Err(refusal) = answer::checked(answer, true) {
         call::clear(scratch);
-        return refusal;
+        return u32::from(refusal);
     }
-    let lent = Lent {
-        counts: state::scope_of(scope),
-        slots,
-        names,
-    };
     let request = Request {
         old_length,
         old: Record {
@@ -119,6 +107,11 @@ pub extern "C" fn feel_repair(
         to,
         size,
         part,
+    };
+    let lent = Lent {
+        counts: state::scope_of(scope),
+        slots,
+        names,
     };
     let mut room = Room {
         rows,

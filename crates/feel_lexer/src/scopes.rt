@@ -12,25 +12,22 @@ use text::refusal::Refusal;
 
 // Makes a call on the counts of a scope and writes those that it gives; a refused one leaves them.
 // The closure is lent: what it wrote through its captures is known behind it.
+#[tactic(auto, unfolding(crate::specs::Exported::number))]
 fn called<F: FnMut(Scope) -> Result<Scope, Refusal>>(
     scope: &mut [usize],
     answer: &mut [usize],
     call: &mut F,
-) -> Result<(), u32>
+) -> Result<(), Refusal>
     requires { F.IsAlwaysCallable call.old }
     ensures { Called F.step call.old answer.old scope.old result answer.new scope.new call.new }
 {
     answer::checked(answer, true)?;
     if scope.len() != state::SCOPE_SIZE {
-        return Err(Refusal::BROKEN_SCOPE);
+        return Err(Refusal::BrokenScope);
     }
-    match call(state::scope_of(scope)) {
-        Ok(s) => {
-            state::put_scope(scope, s);
-            Ok(())
-        }
-        Err(refusal) => Err(u32::from(refusal)),
-    }
+    let s = call(state::scope_of(scope))?;
+    state::put_scope(scope, s);
+    Ok(())
 }
 
 // Opens a scope with one empty context.

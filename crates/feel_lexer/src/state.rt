@@ -36,8 +36,8 @@ pub fn put_scope(numbers: &mut [usize], s: Scope)
     numbers.copy_from_slice(&[s.contexts, s.entries, s.parsed]);
 }
 
-#[tactic(auto, unfolding(crate::specs::Numbers::is_lexer))]
 // The lexer of which these are the numbers; where no start token is due, its type is 0.
+#[tactic(auto, unfolding(crate::specs::Numbers::is_lexer))]
 pub fn lexer_of(numbers: &[usize]) -> Option<Lexer>
     ensures { LexerOf numbers.now result }
 {

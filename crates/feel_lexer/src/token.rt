@@ -2,59 +2,82 @@
 ghost use Rattle.std.specs.Prelude.{◌≡◌, ◌≤◌, length};
 ghost use Rattle.text.specs.Limits.{max_chars};
 ghost use Rattle.lexer.specs.Answered.{cell_count};
-ghost use Rattle.runs.specs.Coded.{kind_from};
 ghost use Rattle.feel_lexer.specs.Numbers.{answer_size};
 ghost use Rattle.feel_lexer.specs.Exported as spec;
 
 use crate::answer::Answer;
 use crate::{answer, state};
 use lexer::token::Read;
+use lexer::token_type::TokenType;
 use runs::call;
-use runs::item;
-use runs::item::Value;
 use scope::lent::Lent;
 use scope::scope::{Scope, Slot};
 use text::refusal::Refusal;
 use tokens::call::Lexer;
 
 // The lexer of which these are the numbers, where the answer has its size; it is set to place 0.
-fn ready(lexer: &[usize], answer: &mut [usize]) -> Result<Lexer, u32>
+fn ready(lexer: &[usize], answer: &mut [usize]) -> Result<Lexer, Refusal>
     ensures { spec.Ready lexer.now answer.old result answer.new }
 {
     answer::checked(answer, true)?;
-    state::lexer_of(lexer).ok_or(Refusal::SHORT_SLICE)
+    state::lexer_of(lexer).ok_or(Refusal::ShortSlice)
 }
 
-// Writes the answer of a reading: its token and value, or the place and the carry of its refusal.
-fn put_read(read: Read, place: usize, answer: &mut [usize]) -> Result<(), u32>
-    requires sized { length answer.old ≡ answer_size }
-    requires short { cell_count read ≤ max_chars }
-    ensures { (spec.number result ≡ spec.kind_number (kind_from read)) × (answer.new ≡ spec.coded_answer read place) }
+// Writes the answer of what was read at a place: a token, or the carry of a refusal, whose number is given back.
+fn put_read(read: Read, place: usize, answer: &mut [usize]) -> u32
+    requires { (cell_count read ≤ max_chars) × (length answer.old ≡ answer_size) }
+    ensures { (result ≡ spec.number_from read) × (answer.new ≡ spec.answer_from read place) }
 {
-    let value = Value::of(read);
-    let told = Answer {
+    let at = Answer {
         place,
-        length: value.length,
-        before: value.before,
-        after: value.after,
-        exponent: value.exponent,
-        extra: value.extra as usize,
         ..Answer::EMPTY
     };
-    match item::kind(read) {
-        Ok(token) => {
+    let (refusal, told) = match read {
+        Read::Plain(k) => (
+            0,
             Answer {
-                token_type: token as usize,
-                ..told
-            }
-            .write(answer);
-            Ok(())
-        }
-        Err(refusal) => {
-            told.write(answer);
-            Err(refusal)
-        }
-    }
+                token_type: k as usize,
+                ..at
+            },
+        ),
+        Read::Boolean(b) => (
+            0,
+            Answer {
+                token_type: TokenType::BOOLEAN as usize,
+                extra: usize::from(b),
+                ..at
+            },
+        ),
+        Read::Numeric(before, after, minus, exponent) => (
+            0,
+            Answer {
+                token_type: TokenType::NUMERIC as usize,
+                length: before + after + exponent,
+                before,
+                after,
+                exponent,
+                extra: usize::from(minus),
+                ..at
+            },
+        ),
+        Read::Chars(k, n) => (
+            0,
+            Answer {
+                token_type: k as usize,
+                length: n,
+                ..at
+            },
+        ),
+        Read::Refused(n, carry) => (
+            n,
+            Answer {
+                extra: carry as usize,
+                ..at
+            },
+        ),
+    };
+    told.write(answer);
+    refusal
 }
 
 // The next token of a text: its value fills the output's front, and the lexer's numbers are those of the state after it.
@@ -82,11 +105,11 @@ pub extern "C" fn feel_next_token(
             };
             let c = tokens::call::next_token(l, text, lent, out, scratch);
             state::put_lexer(lexer, c.next);
-            answer::number(put_read(c.read, c.place, answer))
+            put_read(c.read, c.place, answer)
         }
         Err(refusal) => {
             call::clear(scratch);
-            refusal
+            u32::from(refusal)
         }
     }
 }
