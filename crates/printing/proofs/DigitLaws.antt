@@ -6,15 +6,9 @@ use Prim.Native.Nat.{ℕ, zero, suc, ◌-◌, ◌/◌, ◌%◌, ◌≤◌, ◌<�
 use native.Mathlib.Nat.{mod-lt}
 use native.Mathlib.Omega.{arith}
 use lib.Dec.{ltb}
-use lib.ListN.{length, drop, set, length-set, length-drop, drop_of_length-le}
+use lib.ListN.{length, take, drop, set, length-set, length-drop, drop_of_length-le}
 use lib.Seq.{take_all}
-use Rattle.reading.specs.Slices.{Further}
-use Rattle.reading.specs.Span.{part}
 use Rattle.runs.specs.Print.{digit, digits_in}
-
--- Digits that end where their ten cells end.
-pub further_digits : (ds : List ℕ) (i : ℕ) {v : List ℕ} → drop i ds ≡ v → (o : List ℕ) (k r : ℕ) (o' : List ℕ) → Further o k (part ds i 10) r o' → length ds ≡ 10 → Further o k v r o'
-further_digits ds i e o k r o' f h = subst (λ w. Further o k w r o') (take_all (10 - i) (drop i ds) (rw length-drop (omega arith)) ∙ e) f
 
 set-drop : (l : List ℕ) (j x : ℕ) → j < length l → drop j (set l j x) ≡ x ∷ drop (suc j) l
 set-drop [] j x h = absurd (omega arith)
@@ -41,12 +35,15 @@ module _ {base n : ℕ} {ds : List ℕ} {i m : ℕ} (d : Digits base n ds i m) (
   written : drop j (set ds j x) ≡ digit (m % base) ∷ drop (suc j) ds
   written = rw (← e) (set-drop ds j x (omega (arith, d.ten, d.within)))
 
-  pub digits_last : ltb m base ≡ true → drop j (set ds j x) ≡ digits_in base 10 n []
-  digits_last h = written ∙ (rw h at step)
+  -- The last digit: all of them stand from its place on.
+  pub digits_last : ltb m base ≡ true → take (10 - j) (drop j (set ds j x)) ≡ digits_in base 10 n []
+  digits_last h =
+      let l : length (drop j (set ds j x)) ≤ 10 - j = omega (arith, length-drop j (set ds j x), length-set ds j x, d.ten) in
+      take_all (10 - j) (drop j (set ds j x)) l ∙ written ∙ (rw h at step)
 
   pub digits_more : ltb m base ≡ false → Digits base n (set ds j x) j (m / base)
   digits_more h = record { ten = length-set ds j x ∙ d.ten; within = omega (arith, d.within); all = ap (digits_in base j (m / base)) written ∙ (rw h at step) }
 
-pub digits-all : {base n : ℕ} {ds : List ℕ} {i m : ℕ} → Digits base n ds i m → i ≡ 0 → drop 0 ds ≡ digits_in base 10 n []
+pub digits-all : {base n : ℕ} {ds : List ℕ} {i m : ℕ} → Digits base n ds i m → i ≡ 0 → ds ≡ digits_in base 10 n []
 unfolding digits_in
 digits-all d z = rw z at d.all

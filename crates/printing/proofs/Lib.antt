@@ -1,4 +1,3 @@
-pub mod FurtherLaws
 pub mod DigitLaws
 pub mod PieceLaws
 pub mod ValueLaws

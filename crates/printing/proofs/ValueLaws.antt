@@ -27,8 +27,8 @@ drop_least : (n : ℕ) (l : List ℕ) → drop (min n (length l)) l ≡ drop n l
 drop_least n l = by_order n (length l) (λ h. let e : min n (length l) ≡ n = omega arith in rw e) (λ h. drop_of_length-le l {i = min n (length l)} (omega arith) ∙ sym (drop_of_length-le l h))
 
 module _ (v : List ℕ) (before after : ℕ) {a b n : ℕ} (a-is : a ≡ min before (length v)) (n-is : n ≡ min after (length v - a)) (b-is : b ≡ a + n) where
-  pub part-before : part v 0 a ≡ take before v
-  part-before = let z : a - 0 ≡ min before (length v) = omega arith in rw z (take_least before v)
+  pub part-before : take a v ≡ take before v
+  part-before = rw a-is (take_least before v)
 
   pub part-after : part v a b ≡ take after (drop before v)
   part-after =
@@ -41,10 +41,11 @@ module _ (v : List ℕ) (before after : ℕ) {a b n : ℕ} (a-is : a ≡ min bef
       let z : b ≡ min (before + after) (length v) = omega arith in
       take_all (length v - b) (drop b v) (rw length-drop (omega arith)) ∙ rw z (drop_least (before + after) v)
 
--- The three parts with what stands between them.
-pub number_is : (before after sign : ℕ) (v : List ℕ) {x y z : List ℕ} → x ≡ take before v → y ≡ take after (drop before v) → z ≡ drop (before + after) v
-    → x ++ codes "/" ++ (y ++ codes "/") ++ (cond (eqb sign 1) (codes "-") (codes "+") ++ codes "/") ++ z ≡ number_field before after sign v
-number_is before after sign v a b c = rw (a, b, c) (simp append_assoc)
+-- The three parts with what stands between them, behind what is there.
+pub number_is : (o : List ℕ) (before after sign : ℕ) (v : List ℕ) {x y z : List ℕ} {c : ℕ} → x ≡ take before v → y ≡ take after (drop before v) → z ≡ drop (before + after) v
+    → c ∷ [] ≡ cond (eqb sign 1) (codes "-") (codes "+")
+    → ((((((o ++ x) ++ codes "/") ++ y) ++ codes "/") ++ c ∷ []) ++ codes "/") ++ z ≡ o ++ number_field before after sign v
+number_is o before after sign v a b c s = rw (a, b, c, s) (simp append_assoc)
 
 pub value_is : (store r : List ℕ) {s l a n : ℕ} → s ≡ get_or r start_at 0 → l ≡ get_or r length_at 0 → a ≡ min s (length store) → n ≡ min l (length store - a) → part store a (a + n) ≡ (item_of store r).value
 value_is store r {s} {l} begins size a-is n-is = part-after store s l a-is n-is refl ∙ rw (begins, size)

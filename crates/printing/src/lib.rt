@@ -2,7 +2,7 @@
 
 #![tactic(auto)]
 
-mod cells; // cells.rt: cells written behind others
+mod output; // output.rt: the characters printed so far
 mod number; // number.rt: the digits of a number
 mod value; // value.rt: the value field of an item
 mod line; // line.rt: the lines of a record

@@ -1,46 +1,38 @@
 // Numbers as the record program prints them.
-ghost use Rattle.std.specs.Prelude.{◌≡◌, [], ◌+◌, ◌≤◌, ◌<◌, length, drop};
-ghost use Rattle.reading.specs.Slices.{Further};
+ghost use Rattle.std.specs.Prelude.{◌≡◌, [], ◌++◌, ◌+◌, ◌≤◌, ◌<◌, length};
 ghost use Rattle.runs.specs.Print as spec;
+ghost use Rattle.printing.specs.Room.{max_printed};
 
-use crate::cells;
+use crate::output::Output;
+use text::chars::Char;
 
 // Digits 0 to 9, then A to F.
 fn digit(d: usize) -> u32
     requires { d < 16 }
     ensures { result ≡ spec.digit d }
 {
+    let d = d as u32;
     if d < 10 {
-        return (0x30 + d) as u32;
+        Char::DIGIT_0 + d
+    } else {
+        Char::CAPITAL_A - 10 + d
     }
-    (0x37 + d) as u32
 }
 
-// Writes the digits of a number to the end of ten cells; answers the place of the first.
-fn write_digits(base: usize, n: usize, ds: &mut [u32]) -> usize
-    requires { (0 < base) × (base ≤ 16) × (length ds.old ≡ 10) }
-    ensures { (drop result ds.new ≡ spec.digits_in base 10 n []) × (result ≤ 10) }
-{
-    let mut i: usize = 10;
-    let mut m = n;
-    while 0 < i {
-        i -= 1;
-        ds[i] = digit(m % base);
-        if m < base {
-            return i;
-        }
-        m = m / base;
-    }
-    0
-}
-
-// Writes a number in a base behind the k characters at the front of out.
+// Writes a number in a base; ten digits hold every u32.
 // Ruled out, among others: zeros in front; no digit at all for 0.
-pub fn put_number(base: usize, n: usize, out: &mut [u32], k: usize) -> usize
-    requires { (0 < base) × (base ≤ 16) × (k + length (spec.digits_in base 10 n []) ≤ length out.old) }
-    ensures { Further out.old k (spec.digits_in base 10 n []) result out.new }
+pub fn put_number(base: usize, n: usize, out: &mut Output)
+    requires { (0 < base) × (base ≤ 16) × (length out.old + length (spec.digits_in base 10 n []) ≤ max_printed) }
+    ensures { out.new ≡ out.old ++ spec.digits_in base 10 n [] }
 {
-    let mut ds = [0u32; 10];
-    let i = write_digits(base, n, &mut ds);
-    cells::put_part(&ds, i, 10, out, k)
+    let mut digits = [0; 10];
+    let mut rest = n;
+    for i in (0..10).rev() {
+        digits[i] = digit(rest % base);
+        if rest < base {
+            return out.append(&digits[i..]);
+        }
+        rest /= base;
+    }
+    out.append(&digits)
 }

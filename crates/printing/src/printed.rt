@@ -1,6 +1,5 @@
 // From bytes to the characters that the record program prints.
-ghost use Rattle.std.specs.Prelude.{◌≤◌, length, take};
-ghost use Rattle.reading.specs.Slices.{Wrote};
+ghost use Rattle.std.specs.Prelude.{◌≡◌, [], ◌≤◌, length};
 ghost use Rattle.scope.specs.Entries.{opened};
 ghost use Rattle.scope.specs.Keys.{is_name};
 ghost use Rattle.lexer.specs.Flags.{no_flags};
@@ -8,9 +7,10 @@ ghost use Rattle.lexer.specs.Token.{read_token};
 ghost use Rattle.lexer.specs.TokenType as type;
 ghost use Rattle.runs.specs.Run.{run_items};
 ghost use Rattle.runs.specs.Print as spec;
-ghost use Rattle.printing.specs.Room.{max_input, max_printed};
+ghost use Rattle.printing.specs.Room.{max_input};
 
 use crate::line;
+use crate::output::Output;
 use crate::print::MAX_INPUT;
 use lexer::flags::Flags;
 use lexer::token_type::TokenType;
@@ -18,60 +18,47 @@ use runs::item::Item;
 use runs::room::Room;
 use scope::lent::Lent;
 use scope::scope::{Scope, Slot};
+use text::refusal::Refusal;
 
-// Writes the lines of the record of the first n cells. The default scope has no names, so its rows are never read.
-fn put_record(cells: &[u32], n: usize, out: &mut [u32]) -> usize
-    requires { (n ≤ length cells.now) × (n ≤ max_input) × (max_printed ≤ length out.old) }
-    ensures { Wrote out.old (spec.lines 0 (run_items (read_token (is_name opened)) type.StartExpression no_flags (take n cells.now))) result out.new }
+// Writes the lines of a text's record. The default scope has no names, so its rows are never read.
+fn put_record(text: &[u32], out: &mut Output)
+    requires { (length text.now ≤ max_input) × (out.old ≡ []) }
+    ensures { out.new ≡ spec.lines 0 (run_items (read_token (is_name opened)) type.StartExpression no_flags text.now) }
 {
-    let slots = [[0u32; Slot::NUMBERS]; Scope::ROWS];
-    let names = [[0u32; Scope::MAX_NAME]; Scope::ROWS];
-    let mut rows = [[0u32; Item::NUMBERS]; MAX_INPUT + 2];
-    let mut store = [0u32; MAX_INPUT];
-    let mut scratch = [0u32; 2 * MAX_INPUT];
-    let flags = Flags {
-        unary_tests: false,
-        between: false,
-        type_name: false,
-        till_in: false,
-        after_dot: false,
-    };
+    let slots = [[0; Slot::NUMBERS]; Scope::ROWS];
+    let names = [[0; Scope::MAX_NAME]; Scope::ROWS];
     let scope = Lent {
         counts: Scope::opened(),
         slots: &slots,
         names: &names,
     };
+    let mut rows = [[0; Item::NUMBERS]; MAX_INPUT + 2];
+    let mut store = [0; MAX_INPUT];
+    let mut scratch = [0; 2 * MAX_INPUT];
     let mut room = Room {
         rows: &mut rows,
         store: &mut store,
         scratch: &mut scratch,
     };
-    let made = runs::run::run(
-        &cells[..n],
-        TokenType::START_EXPRESSION,
-        flags,
-        scope,
-        &mut room,
-    );
-    match made {
-        Ok(counts) => line::put_lines(&rows, counts.items, &store, out),
-        Err(_) => 0,
+    let start = u32::from(TokenType::StartExpression);
+    if let Ok(counts) = runs::run::run(text, start, Flags::default(), scope, &mut room) {
+        let Room { rows, store, .. } = room;
+        line::put_lines(&rows[..counts.items], store, out);
     }
 }
 
-// Writes all that the record program prints for some bytes to the front of out, and answers how many characters that is.
+// Writes all that the record program prints for some bytes.
 // Ruled out, among others: a line for a text that is not well-formed; one item where there are more.
-pub fn put_printed(bytes: &[u8], out: &mut [u32]) -> usize
-    requires { max_printed ≤ length out.old }
-    ensures { Wrote out.old (spec.printed bytes.now) result out.new }
+pub fn put_printed(bytes: &[u8], out: &mut Output)
+    requires { out.old ≡ [] }
+    ensures { out.new ≡ spec.printed bytes.now }
 {
     if MAX_INPUT < bytes.len() {
-        return line::put_refused(1, 0, out);
+        return line::put_refused(u32::from(Refusal::TooLong), 0, out);
     }
-    let mut cells = [0u32; MAX_INPUT];
-    let opening = text::utf8::open_bytes(bytes, &mut cells);
-    match opening {
-        Ok(t) => put_record(&cells, t.chars, out),
-        Err(r) => line::put_refused(u32::from(r.refusal), r.place, out),
+    let mut cells = [0; MAX_INPUT];
+    match text::utf8::open_bytes(bytes, &mut cells) {
+        Ok(text) => put_record(&cells[..text.chars], out),
+        Err(refused) => line::put_refused(u32::from(refused.refusal), refused.place, out),
     }
 }

@@ -1,30 +1,33 @@
 -- Field behind field.
-use native.Mathlib.Omega.{arith}
+use Rattle.std.proofs.Common.{ap, length, length-append, ℕ, arith}
 use Rattle.runs.specs.Record.{item_of}
-use Rattle.printing.proofs.FurtherLaws.{further_same, further_more}
-use Rattle.printing.proofs.LineLaws.{line-is, line-size}
+use Rattle.printing.proofs.LineLaws.{line-size}
 use Rattle.printing.proofs.line.put_line.Goals as goal
 
-pub put_count-j-requires : goal.put_count-j-requires
-put_count-j-requires c = let a = c.args in omega (arith, line-size a.n (item_of a.store.now a.row))
+pub put_field-requires : goal.put_field-requires
+put_field-requires c = let a = c.args in omega (arith, line-size a.n (item_of a.store.now a.row))
 
-pub put_type-j-requires : goal.put_type-j-requires
-put_type-j-requires c = let a = c.args in omega (arith, line-size a.n (item_of a.store.now a.row))
-
-pub put_field-j-requires : goal.put_field-j-requires
-put_field-j-requires c = let a = c.args in omega (arith, line-size a.n (item_of a.store.now a.row))
-
-pub put_field-j-requires-2 : goal.put_field-j-requires-2
-put_field-j-requires-2 c = let a = c.args in omega (arith, line-size a.n (item_of a.store.now a.row))
-
-pub put_value-j-requires : goal.put_value-j-requires
-put_value-j-requires c = let a = c.args in omega (arith, line-size a.n (item_of a.store.now a.row))
-
-pub put_cell-requires : goal.put_cell-requires
-put_cell-requires c = let a = c.args in omega (arith, line-size a.n (item_of a.store.now a.row))
-
-pub returns : goal.returns
-returns c =
+pub put_type-requires : goal.put_type-requires
+put_type-requires c =
     let a = c.args in
-    further_same (line-is a.n (item_of a.store.now a.row))
-    (further_more (further_more (further_more (further_more (further_more c.put_count-j.ensures.0 c.put_type-j.ensures) c.put_field-j.ensures.0) c.put_field-j-2.ensures.0) c.put_value-j.ensures) c.put_cell.ensures)
+    omega (arith, line-size a.n (item_of a.store.now a.row), ap length c.put_field.ensures, length-append {A = ℕ})
+
+pub put_field-requires-2 : goal.put_field-requires-2
+put_field-requires-2 c =
+    let a = c.args in
+    omega (arith, line-size a.n (item_of a.store.now a.row), ap length c.put_field.ensures, ap length c.put_type.ensures, length-append {A = ℕ})
+
+pub put_field-requires-3 : goal.put_field-requires-3
+put_field-requires-3 c =
+    let a = c.args in
+    omega (arith, line-size a.n (item_of a.store.now a.row), ap length c.put_field.ensures, ap length c.put_type.ensures, ap length c.put_field-2.ensures, length-append {A = ℕ})
+
+pub put_value-requires : goal.put_value-requires
+put_value-requires c =
+    let a = c.args in
+    omega (arith, line-size a.n (item_of a.store.now a.row), ap length c.put_field.ensures, ap length c.put_type.ensures, ap length c.put_field-2.ensures, ap length c.put_field-3.ensures, length-append {A = ℕ})
+
+pub push-requires : goal.push-requires
+push-requires c =
+    let a = c.args in
+    omega (arith, line-size a.n (item_of a.store.now a.row), ap length c.put_field.ensures, ap length c.put_type.ensures, ap length c.put_field-2.ensures, ap length c.put_field-3.ensures, ap length c.put_value.ensures, length-append {A = ℕ})

@@ -1,17 +1,34 @@
--- The copied cells are the digits, for these end where the ten cells end.
-use Rattle.printing.proofs.DigitLaws.{further_digits}
-use mathlib.Core.Path.{ap}
-use native.Mathlib.Omega.{arith}
-use lib.ListN.{length, length-drop}
+-- The digits so far stand from the index on, and nothing is written yet.
+use Rattle.std.proofs.Common.{◌-◌, ◌++◌, ap, ◌∙◌, length, arith}
+use borrow.Author.Tests.{lt-ltb, le-ltb}
+use Rattle.printing.proofs.DigitLaws.{digits_last, digits_more, digits-all}
 use Rattle.printing.proofs.number.put_number.Goals as goal
 
-pub put_part-requires : goal.put_part-requires
-put_part-requires c =
-    let w = c.write_digits-i in
-    omega (arith, ap length w.ensures.0, length-drop w.result w.new.ds)
+pub append-requires : goal.append-requires
+append-requires c =
+    let k = c.loop-i in
+    let e = digits_last k.invariant.0 (k.i - 1) (omega arith) c.digit.ensures (lt-ltb _ _ c.if-rest-base.true) in
+    omega (arith, ap length e, ap length k.invariant.1)
+
+pub returns-then-rest-base : goal.returns-then-rest-base
+returns-then-rest-base c =
+    let k = c.loop-i in
+    let e = digits_last k.invariant.0 (k.i - 1) (omega arith) c.digit.ensures (lt-ltb _ _ c.if-rest-base.true) in
+    c.append.ensures ∙ rw (e, k.invariant.1)
+
+pub loop-i-preserved : goal.loop-i-preserved
+loop-i-preserved c =
+    let k = c.loop-i in
+    (digits_more k.invariant.0 (k.i - 1) (omega arith) c.digit.ensures (le-ltb _ _ c.if-rest-base.false), k.invariant.1)
+
+pub append-requires-2 : goal.append-requires-2
+append-requires-2 c =
+    let k = c.loop-i in
+    let e = digits-all k.invariant.0 (omega arith) in
+    omega (arith, ap length e, ap length k.invariant.1)
 
 pub returns : goal.returns
 returns c =
-    let e = c.put_part.ensures in
-    let w = c.write_digits-i in
-    further_digits w.new.ds w.result w.ensures.0 _ _ _ _ e.0 (omega arith)
+    let k = c.loop-i in
+    let e = digits-all k.invariant.0 (omega arith) in
+    c.append-2.ensures ∙ rw (e, k.invariant.1)

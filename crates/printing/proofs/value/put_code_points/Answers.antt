@@ -1,26 +1,29 @@
 -- A piece for each code point.
-use mathlib.Core.Path.{ap}
-use native.Mathlib.Omega.{arith}
-use lib.ListN.{length}
-use Rattle.printing.proofs.FurtherLaws.{further_same}
-use Rattle.printing.proofs.PieceLaws.{writing_none, writing_room, writing_more, writing_all}
+use Rattle.std.proofs.Common.{ap, length, length-append, ℕ, ◌++◌, ◌∙◌, arith}
+use borrow.Author.Tests.{lt-ltb, le-ltb}
+use Rattle.printing.proofs.PieceLaws.{writing_room, writing_all}
 use Rattle.printing.proofs.ValueLaws.{point, points}
 use Rattle.printing.proofs.value.put_code_points.Goals as goal
+use Rattle.printing.proofs.value.put_code_points.Goals.{then-i-gt0, else-i-gt0}
 
-pub loop-i-init : goal.loop-i-init
-loop-i-init c = writing_none point _ _ _
+pub push-requires : goal.push-requires
+push-requires c =
+    let v = c.args.value.now in
+    let r = rw (lt-ltb _ _ c.if-i-gt0.true) at (writing_room point v 0 c.loop-i.invariant c.loop-i-test.true) in
+    omega (arith, r, ap length (points v))
 
-pub put_code_point-j-requires : goal.put_code_point-j-requires
-put_code_point-j-requires c =
-    let r = writing_room point _ c.loop-i.invariant 0 (omega arith) in
-    omega (arith, c.loop-i.invariant.same, ap length (points c.args.value.now))
-
-pub loop-i-preserved : goal.loop-i-preserved
-loop-i-preserved c =
-    writing_more point _ c.loop-i.invariant 0 (omega arith) c.put_code_point-j.ensures (omega arith)
-
-pub shape_of-out : goal.shape_of-out
-shape_of-out c = c.loop-i.invariant.same
+pub put_number-requires : goal.put_number-requires
+put_number-requires c =
+    let v = c.args.value.now in
+    elim c.if-i-gt0.branch [
+      then-i-gt0 w ↦
+        let r = rw (lt-ltb _ _ w.if-i-gt0.true) at (writing_room point v 0 c.loop-i.invariant c.loop-i-test.true) in
+        (omega arith, omega arith, omega (arith, r, ap length w.out-is, ap length w.push.ensures, length-append {A = ℕ}, ap length (points v)))
+      | else-i-gt0 w ↦
+        let r = rw (le-ltb _ _ w.if-i-gt0.false) at (writing_room point v 0 c.loop-i.invariant c.loop-i-test.true) in
+        (omega arith, omega arith, omega (arith, r, ap length w.out-is, ap length (points v)))
+    ]
 
 pub returns : goal.returns
-returns c = further_same (points c.args.value.now) (writing_all point _ c.loop-i.invariant (omega arith))
+returns c =
+    writing_all point _ c.loop-i.invariant (omega arith) ∙ ap (λ l. c.args.out.now ++ l) (points c.args.value.now)

@@ -1,12 +1,7 @@
 -- A piece for each code point.
-use Prim.Native.Nat.{◌-◌}
-use lib.ListN.{length}
 use Rattle.printing.proofs.PieceLaws.{Writing}
 use Rattle.printing.proofs.ValueLaws.{point}
 use Rattle.printing.proofs.value.put_code_points.Given as goal
 
 abbrev pub invariant-loop-i : goal.invariant-loop-i
-invariant-loop-i l = Writing point l.value l.initial.out l.k l.i l.j l.out
-
-abbrev pub decreases-loop-i : goal.decreases-loop-i
-decreases-loop-i l = length l.value - l.i
+invariant-loop-i l = Writing point l.value l.initial.out l.i l.out
