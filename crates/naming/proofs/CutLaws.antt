@@ -116,23 +116,19 @@ out_snoc (q ∷ ps) p f h = go (same q.cells (codes "in")) (λ e. out_snoc ps p 
     go false k e = rw (k (with_none q (before_in ps) e))
 
 module _ {t : List ℕ} {from n i m : ℕ} (g : Seeking t from n i m) where
-  pub seeking_end : n ≤ m → Before t from n n
-  seeking_end l = let e : m ≡ n = omega (arith, g.upto) in record { less = omega arith; cut = λ h. absurd (omega arith); whole = λ _. rw e at g.free }
+  pub seeking_end : n ≤ m → Before t from n None
+  seeking_end l = let e : m ≡ n = omega (arith, g.upto) in rw e at g.free
 
   module _ {p : Option (Range ℕ)} (q : (p ≡ next_of t i) × Placed t i p) where
-    pub seeking_over : p ≡ None → Before t from n n
-    seeking_over r = record { less = omega arith; cut = λ h. absurd (omega arith); whole = λ _. rw (stepping_over g.steps q r g.upto) g.free }
+    pub seeking_over : p ≡ None → Before t from n None
+    seeking_over r = rw (stepping_over g.steps q r g.upto) g.free
 
     module _ (l : m < n) {x : Range ℕ} (r : p ≡ Some x) {b : Bool} (h : b ≡ same (codes "in") (part t x.start x.end)) where
-      pub seeking_found : b ≡ true → Before t from n m
+      pub seeking_found : b ≡ true → Before t from n (Some m)
       seeking_found f =
           let z : m + suc (n - suc m) ≡ n = omega arith in
           let a : prefix t n from ≡ prefix t m from ++ between t x.start x.end ∷ prefix t (n - suc m) x.end = rw z at (g.steps.so (suc (n - suc m))) ∙ ap (prefix t m from ++◌) (prefix-at t i (n - suc m) x (sym r ∙ q.0)) in
-          record {
-            less = omega arith;
-            cut = λ _. rw a (in_snoc (prefix t m from) (between t x.start x.end) (prefix t (n - suc m) x.end) g.free (same_sym (part t x.start x.end) (codes "in") ∙ sym h ∙ f));
-            whole = λ k. absurd (omega arith);
-          }
+          (omega arith, rw a (in_snoc (prefix t m from) (between t x.start x.end) (prefix t (n - suc m) x.end) g.free (same_sym (part t x.start x.end) (codes "in") ∙ sym h ∙ f)))
 
       pub seeking_more : b ≡ false → Seeking t from n x.end (m + 1)
       seeking_more f = record {

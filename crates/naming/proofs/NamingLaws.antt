@@ -97,20 +97,20 @@ module _ (f : Flags) (is_name : List ℕ → Bool) (t : List ℕ) (from n end : 
   pub in_off : f.till_in ≡ false → cut_in_of f is_name t from n end ≡ by_in_of f is_name t from n end None
   in_off e = rw e
 
-  module _ (e : f.till_in ≡ true) {m : ℕ} (b : Before t from n m) where
-    pub in_not : n ≤ m → cut_in_of f is_name t from n end ≡ by_in_of f is_name t from n end None
-    in_not h = rw (e, b.whole h)
+  module _ (e : f.till_in ≡ true) where
+    pub in_not : Before t from n None → cut_in_of f is_name t from n end ≡ by_in_of f is_name t from n end None
+    in_not b = rw (e, b)
 
-    pub in_first : m < n → m ≡ 0 → cut_in_of f is_name t from n end ≡ outcome (refused starts_with_in 0) from f
+    pub in_first : {m : ℕ} → Before t from n (Some m) → m ≡ 0 → cut_in_of f is_name t from n end ≡ outcome (refused starts_with_in 0) from f
     unfolding prefix
-    in_first h z = rw (e, b.cut h, z)
+    in_first b z = rw (e, b.1, z)
 
     some_in : (qs : List Part) → 0 < length qs → by_in_of f is_name t from n end (Some qs) ≡ outcome (token TokenType.Name (name_of qs)) (end_of qs) (clear TillIn f)
     some_in [] h = absurd (omega arith)
     some_in (q ∷ qs) h = refl
 
-    pub in_later : m < n → 0 < m → length (prefix t m from) ≡ m → cut_in_of f is_name t from n end ≡ outcome (token TokenType.Name (name_of (prefix t m from))) (end_of (prefix t m from)) (clear TillIn f)
-    in_later h l c = ap (λ x. by_in_of f is_name t from n end (cond x (before_in (prefix t n from)) None)) e ∙ ap (by_in_of f is_name t from n end) (b.cut h) ∙ some_in (prefix t m from) (omega arith)
+    pub in_later : {m : ℕ} → Before t from n (Some m) → 0 < m → length (prefix t m from) ≡ m → cut_in_of f is_name t from n end ≡ outcome (token TokenType.Name (name_of (prefix t m from))) (end_of (prefix t m from)) (clear TillIn f)
+    in_later {m} b l c = ap (λ x. by_in_of f is_name t from n end (cond x (before_in (prefix t n from)) None)) e ∙ ap (by_in_of f is_name t from n end) b.1 ∙ some_in (prefix t m from) (omega arith)
 
 -- The first part alone decides on `item`.
 starts_leads : (t x : List ℕ) (p : Option (Range ℕ)) (ps qs : List Part) → starts_with x (leads t p ps) ≡ starts_with x (leads t p qs)

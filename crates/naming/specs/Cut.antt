@@ -7,11 +7,10 @@ use Rattle.lexer.specs.Read.{Outcome}
 use Rattle.lexer.specs.Parts.{Part}
 use Rattle.lexer.specs.Places.{prefix, spelling}
 
--- Of the first n parts from `from` on, r stand before the first that is `in`; n if none is.
-pub record Before (t : List ℕ) (from n r : ℕ) : Type 0 where
-  pub less : r ≤ n
-  pub cut : r < n → before_in (prefix t n from) ≡ Some (prefix t r from)
-  pub whole : n ≤ r → before_in (prefix t n from) ≡ None
+-- Of the first n parts from `from` on, so many stand before the first that is `in`, if one is.
+abbrev pub Before : List ℕ → ℕ → ℕ → Option ℕ → Type 0
+Before t from n None = before_in (prefix t n from) ≡ None
+Before t from n (Some m) = (m < n) × (before_in (prefix t n from) ≡ Some (prefix t m from))
 
 -- The value of each prefix of at most n parts has room in k cells.
 pub record Roomy (t : List ℕ) (from n k : ℕ) : Type 0 where

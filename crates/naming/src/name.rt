@@ -20,6 +20,7 @@ ghost use Rattle.naming.specs.Cut.{Before, Roomy, by_prefix_of, by_in_of, cut_in
 use crate::prefix;
 use crate::prefix::Found;
 use lexer::flags::{Flag, Flags};
+use lexer::parts;
 use lexer::token::{Outcome, Read};
 use lexer::token_type::TokenType;
 use search::known::Known;
@@ -31,36 +32,26 @@ fn next_is(rest: &[u32], i: usize, word: &[u8]) -> bool
     requires { i ≤ length rest.now }
     ensures { result ≡ spec.starts_with word.now (prefix rest.now 1 i) }
 {
-    let p = lexer::parts::next_part(rest, i);
-    match p {
+    match parts::next_part(rest, i) {
         Some(part) => names::fixed::is(&rest[part.start..part.end], word),
         None => false,
     }
 }
 
-// How many of the first n parts stand before the first that is `in`; n if none is.
-fn before_in(rest: &[u32], from: usize, n: usize) -> usize
+// How many of the first n parts stand before the first that is `in`, if one is.
+fn before_in(rest: &[u32], from: usize, n: usize) -> Option<usize>
     requires { from ≤ length rest.now }
     ensures { Before rest.now from n result }
 {
     let mut i = from;
-    let mut m: usize = 0;
-    while m < n {
-        let p = lexer::parts::next_part(rest, i);
-        match p {
-            Some(part) => {
-                if names::fixed::is(&rest[part.start..part.end], b"in") {
-                    return m;
-                }
-                i = part.end;
-            }
-            None => {
-                return n;
-            }
+    for m in 0..n {
+        let part = parts::next_part(rest, i)?;
+        if names::fixed::is(&rest[part.start..part.end], b"in") {
+            return Some(m);
         }
-        m += 1;
+        i = part.end;
     }
-    n
+    None
 }
 
 // The place just behind the first m parts.
@@ -69,18 +60,11 @@ fn end_of(rest: &[u32], from: usize, m: usize) -> usize
     ensures { result ≡ spec.end_of (prefix rest.now m from) }
 {
     let mut i = from;
-    let mut k: usize = 0;
-    while k < m {
-        let p = lexer::parts::next_part(rest, i);
-        match p {
-            Some(part) => {
-                i = part.end;
-            }
-            None => {
-                return i;
-            }
-        }
-        k += 1;
+    for _ in 0..m {
+        let Some(part) = parts::next_part(rest, i) else {
+            return i;
+        };
+        i = part.end;
     }
     i
 }
@@ -100,7 +84,7 @@ fn named(
     requires { (from ≤ length rest.now) × (m ≤ n) × Roomy rest.now from n (length out.old) }
     ensures { Gives (outcome (token kind (spec.name_of (prefix rest.now m from))) end (flags_of flags)) reach out.old result out.new }
 {
-    let k = lexer::parts::write_parts(rest, from, m, true, out);
+    let k = parts::write_parts(rest, from, m, true, out);
     Outcome {
         read: Read::Chars(kind, k),
         used: end,
@@ -129,19 +113,14 @@ fn cut_at(
 fn is_type(name: &[u32], flags: Flags) -> bool
     ensures { result ≡ (flags_of flags).type_name && member name.now type_names }
 {
-    if flags.type_name {
-        return names::fixed::is_built_in_type_name(name);
-    }
-    false
+    flags.type_name && names::fixed::is_built_in_type_name(name)
 }
 
 fn is_temporal(name: &[u32], rest: &[u32], end: usize) -> bool
     ensures { result ≡ member name.now temporal_names && is 0x28 (cell_at rest.now end) }
 {
-    if names::fixed::is_built_in_date_time_function_name(name) {
-        return lexer::look::is_at(rest, end, Char::LEFT_PAREN);
-    }
-    false
+    names::fixed::is_built_in_date_time_function_name(name)
+        && lexer::look::is_at(rest, end, Char::LEFT_PAREN)
 }
 
 // All parts, up to `end`: tried as a type name, then as a temporal name before `(`.
@@ -156,7 +135,7 @@ fn all_parts(
     requires { (from ≤ length rest.now) × (end ≤ length rest.now) × Roomy rest.now from n (length out.old) }
     ensures { (is_name : List ℕ → Bool) → Gives (spec.all_parts (flags_of flags) is_name from (prefix rest.now n from) (cell_at rest.now end) end) (end + 1) out.old result out.new }
 {
-    let k = lexer::parts::write_parts(rest, from, n, true, out);
+    let k = parts::write_parts(rest, from, n, true, out);
     if is_type(&out[..k], flags) {
         return Outcome {
             read: Read::Chars(TokenType::BUILT_IN_TYPE_NAME, k),
@@ -245,22 +224,19 @@ fn by_in(
     if !flags.till_in {
         return by_colon(rest, from, n, end, flags, known, out, scratch);
     }
-    let m = before_in(rest, from, n);
-    if n <= m {
-        return by_colon(rest, from, n, end, flags, known, out, scratch);
-    }
-    if m == 0 {
-        return Outcome {
+    match before_in(rest, from, n) {
+        None => by_colon(rest, from, n, end, flags, known, out, scratch),
+        Some(0) => Outcome {
             read: Read::Refused(Refusal::STARTS_WITH_IN, 0),
             used: from,
             flags,
             reach: end + 1,
-        };
+        },
+        Some(m) => cut_at(rest, from, n, m, flags.clear(Flag::TillIn), end + 1, out),
     }
-    cut_at(rest, from, n, m, flags.clear(Flag::TillIn), end + 1, out)
 }
 
-// The name that begins at i, with a name character. No name of the scope has more than cap characters; scratch is found and left zero.
+// The name that begins at i, with a name character. Scratch is found and left zero.
 // Ruled out, among others: the fallback name with no prefix tried; a name cut one part too long.
 pub fn read_name(
     rest: &[u32],
@@ -274,7 +250,7 @@ pub fn read_name(
     ensures { Takes rest.now 0 (spec.read_name fuel (flags_of flags) (is_name (sound_scope known.entry.scope)) i) out.old result out.new
         × (scratch.new ≡ scratch.old) }
 {
-    let w = lexer::parts::count_parts(rest, i);
+    let w = parts::count_parts(rest, i);
     let n = w.parts;
     let end = w.end;
     if next_is(rest, i, b"item") {

@@ -1,10 +1,6 @@
 -- Behind the first m parts, none of which is `in`.
-use Prim.Native.Nat.{◌-◌}
 use Rattle.naming.proofs.CutLaws.{Seeking}
 use Rattle.naming.proofs.name.before_in.Given as goal
 
 abbrev pub invariant-loop-m : goal.invariant-loop-m
 invariant-loop-m l = Seeking l.rest l.from l.n l.i l.m
-
-abbrev pub decreases-loop-m : goal.decreases-loop-m
-decreases-loop-m l = l.n - l.m
