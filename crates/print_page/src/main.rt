@@ -12,7 +12,6 @@ use scope::lent::Lent;
 use scope::scope::{Scope, Slot};
 use std::io::Read;
 use std::{fmt, io};
-use text::refusal::Refusal;
 
 // Of a longer rule the first bytes are read.
 const MAX_INPUT: usize = 128;
@@ -41,10 +40,10 @@ fn print_refusal(rt: &impl Print, n: u32, place: usize) -> io::Result<()> {
 
 // The items of the rows; more than a page holds are 9.
 fn print_rows(rt: &impl Print, rows: &[[u32; Item::NUMBERS]]) -> io::Result<()> {
-    let page = page::page_of(rows);
-    if page.refusal != Refusal::NONE {
-        return print_refusal(rt, page.refusal, 0);
-    }
+    let page = match page::page_of(rows) {
+        Ok(page) => page,
+        Err(refusal) => return print_refusal(rt, u32::from(refusal), 0),
+    };
     for (i, item) in page.items.iter().take(rows.len()).enumerate() {
         let line = Line(*item);
         println!(rt; "{i} {line}")?;
