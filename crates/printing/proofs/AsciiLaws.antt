@@ -145,15 +145,6 @@ one_byte [] h i g = absurd (not-suc-le-zero g)
 one_byte (c ∷ l) h zero g = let a = ltb-true c 0x80 (both (is_ascii c) (all_of is_ascii l) h.all).0 in omega arith
 one_byte (c ∷ l) h (suc i) g = one_byte l (ascii (both (is_ascii c) (all_of is_ascii l) h.all).1) i (omega arith)
 
--- Where all that is printed stands at the front of some cells, a byte holds each of them, and they can be written again as bytes.
-module _ (bytes : List ℕ) {o o' : List ℕ} {n : ℕ} (w : Wrote o (printed bytes) n o') where
-  abbrev rest : List ℕ
-  rest = drop (length (printed bytes)) o
-
-  pub cells_bytes : (i : ℕ) → i < n → get_or o' i 0 < 256
-  cells_bytes i h =
-      let l : i < length (printed bytes) = omega (arith, w.size) in
-      rw (w.left, get_or-append (printed bytes) rest 0 i l) (one_byte (printed bytes) (printed_ascii bytes) i l)
-
-  pub cells_again : {x x' : List ℕ} → x' ≡ front (take n o') x → Wrote x (printed bytes) n x'
-  cells_again e = record { size = w.size; left = e ∙ rw (w.left, w.size, take-append_seam (printed bytes) rest) }
+-- A byte holds each character of all that is printed.
+pub printed_bytes : (bytes : List ℕ) (i : ℕ) → i < length (printed bytes) → get_or (printed bytes) i 0 < 256
+printed_bytes bytes i h = one_byte (printed bytes) (printed_ascii bytes) i h

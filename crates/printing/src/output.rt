@@ -50,7 +50,8 @@ impl Output {
     }
 
     pub fn cells(&self) -> &[u32]
-        ensures { result.now ≡ self.now }
+        ensures value { result.now ≡ self.now }
+        ensures fits { length self.now ≤ max_printed }
     {
         &self.cells[..self.used]
     }

@@ -42,8 +42,7 @@ fn put_record(text: &[u32], out: &mut Output)
     };
     let start = u32::from(TokenType::StartExpression);
     if let Ok(counts) = runs::run::run(text, start, Flags::default(), scope, &mut room) {
-        let Room { rows, store, .. } = room;
-        line::put_lines(&rows[..counts.items], store, out);
+        line::put_lines(&rows[..counts.items], &store, out);
     }
 }
 
