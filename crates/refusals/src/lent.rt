@@ -50,3 +50,13 @@ pub fn bytes() -> [u8; Text::MAX_BYTES + 1]
 {
     [b'a'; Text::MAX_BYTES + 1]
 }
+
+// The first n elements, or all where there are fewer.
+pub fn front<T>(s: &[T], n: usize) -> &[T] {
+    &s[..n.min(s.len())]
+}
+
+pub fn front_mut<T>(s: &mut [T], n: usize) -> &mut [T] {
+    let end = n.min(s.len());
+    &mut s[..end]
+}

@@ -1,210 +1,147 @@
 // Bytes opened: Unicode's examples of UTF-8, and texts at their limits.
 use crate::lent::FILL;
+use crate::told::{Front, Hex, Refused};
 use crate::{filled, lent, told};
 use std::io;
-use text::utf8::{Refused, Text};
+use text::utf8;
+use text::utf8::Text;
 
-fn wide(b: u8) -> u32 {
-    b as u32
-}
-
-fn print_bytes(rt: &impl Print, bytes: &[u8]) -> io::Result<()> {
-    let mut i: usize = 0;
-    while i < bytes.len() {
-        if 0 < i {
-            say::words(rt, b" ")?;
-        }
-        say::hexadecimal(rt, wide(bytes[i]))?;
-        i += 1;
-    }
-    say::words(rt, b": ")
-}
-
-// The first n cells.
-pub fn print_cells(rt: &impl Print, cells: &[u32], n: usize) -> io::Result<()> {
-    let mut i: usize = 0;
-    while i < n {
-        if cells.len() <= i {
-            return Ok(());
-        }
-        say::words(rt, b" ")?;
-        say::hexadecimal(rt, cells[i])?;
-        i += 1;
-    }
-    Ok(())
-}
-
-// An opened text; its characters if they are few, else their number.
-fn opened(rt: &impl Print, out: &[u32], n: usize) -> io::Result<()> {
-    say::words(rt, b"opened")?;
-    if n < 8 {
-        print_cells(rt, out, n)?;
-    } else {
-        told::number(rt, b", characters ", n)?;
-    }
-    told::kept(rt, b"; rest of output", filled::is_filled(out, n, FILL))
-}
+static EXAMPLES: [&[u8]; 45] = [
+    // The Unicode Standard's example of its encoding forms; then the first and last sequences of each row of its table of well-formed ones.
+    b"\x4D\xD0\xB0\xE4\xBA\x8C\xF0\x90\x8C\x82",
+    b"\x00\x7F",
+    b"\xC2\x80\xDF\xBF",
+    b"\xE0\xA0\x80\xE0\xBF\xBF",
+    b"\xE1\x80\x80\xEC\xBF\xBF",
+    b"\xED\x80\x80\xED\x9F\xBF",
+    b"\xEE\x80\x80\xEF\xBF\xBF",
+    b"\xF0\x90\x80\x80\xF0\xBF\xBF\xBF",
+    b"\xF1\x80\x80\x80\xF3\xBF\xBF\xBF",
+    b"\xF4\x80\x80\x80\xF4\x8F\xBF\xBF",
+    b"\xEF\xBB\xBF\x61",
+    // Bytes just outside the ranges of that table.
+    b"\x41\x80",
+    b"\x41\xBF",
+    b"\xC1\xBF",
+    b"\xC2\x7F",
+    b"\xC2\xC0",
+    b"\xE0\x9F\x80",
+    b"\xE0\x9F\xBF",
+    b"\xE0\xC0\x80",
+    b"\xE1\x7F\x80",
+    b"\xE1\x80\xC0",
+    b"\xED\xA0\x80",
+    b"\xEF\xBF\x7F",
+    b"\xF0\x8F\xBF\xBF",
+    b"\xF0\x80\x80\x41",
+    b"\xF0\x90\x7F\x80",
+    b"\xF0\x90\x80\xC0",
+    b"\xF4\x90\x80\x80",
+    b"\xF5\x80\x80\x80",
+    b"\xF0\x90\x8C\x82\xFE",
+    b"\x41\x42\xFF",
+    // Sequences that the text's end or another character cuts.
+    b"\x41\xC2",
+    b"\x41\xE2\x82",
+    b"\x41\xF0\x90\x8C",
+    b"\xE2\x28\xA1",
+    b"\xE2\x82\x28",
+    b"\xC2\xA0\x80",
+    // The Unicode Standard's examples of ill-formed sequences, and of one that is well-formed.
+    b"\xC0\xAF\xE0\x80\xBF\xF0\x81\x82\x41",
+    b"\xED\xA0\x80\xED\xBF\xBF\xED\xAF\x41",
+    b"\xF4\x91\x92\x93\xFF\x41\x80\xBF\x42",
+    b"\xE1\x80\xE2\xF0\x91\x92\xF1\xBF\x41",
+    b"\x61\xF1\x80\x80\xE1\x80\xC2\x62\x80\x63\x80\xBF\x64",
+    b"\x41\xC3\xB1\x42",
+    b"\x41\xC2\xC3\xB1\x42",
+    b"\xC2\x41\x42",
+];
 
 // The answer for an output that was filled before the call.
-fn answer(rt: &impl Print, r: Result<Text, Refused>, out: &[u32]) -> io::Result<()> {
+fn answer(rt: &impl Print, r: Result<Text, utf8::Refused>, out: &[u32]) -> io::Result<()> {
     match r {
-        Ok(t) => opened(rt, out, t.chars)?,
-        Err(r) => {
-            told::refused(rt, u32::from(r.refusal))?;
-            told::number(rt, b" at ", r.place)?;
-            told::kept(rt, b"; output", filled::is_filled(out, 0, FILL))?;
+        Ok(Text { chars }) => {
+            let rest = told::kept(filled::is_filled(out, chars, FILL));
+            println!(rt;
+                "opened{}; rest of output {rest}",
+                Front(out, chars, "characters")
+            )
+        }
+        Err(utf8::Refused { refusal, place }) => {
+            let whole = told::kept(filled::is_filled(out, 0, FILL));
+            println!(rt;
+                "{} at {place}; output {whole}",
+                Refused(u32::from(refusal))
+            )
         }
     }
-    say::words(rt, b"\n")
 }
 
 // Opens bytes, with room for 16 characters.
 fn bytes(rt: &impl Print, all: &[u8]) -> io::Result<()> {
     let mut out = [FILL; 16];
-    print_bytes(rt, all)?;
-    let r = text::utf8::open_bytes(all, &mut out);
+    if let [first, rest @ ..] = all {
+        print!(rt; "{first:X}{}: ", Hex(rest))?;
+    }
+    let r = utf8::open_bytes(all, &mut out);
     answer(rt, r, &out)
 }
 
-// The Unicode Standard's example of its encoding forms; then the first and last sequences of each row of its table of well-formed ones.
-fn well_formed(rt: &impl Print) -> io::Result<()> {
-    bytes(rt, b"\x4D\xD0\xB0\xE4\xBA\x8C\xF0\x90\x8C\x82")?;
-    bytes(rt, b"\x00\x7F")?;
-    bytes(rt, b"\xC2\x80\xDF\xBF")?;
-    bytes(rt, b"\xE0\xA0\x80\xE0\xBF\xBF")?;
-    bytes(rt, b"\xE1\x80\x80\xEC\xBF\xBF")?;
-    bytes(rt, b"\xED\x80\x80\xED\x9F\xBF")?;
-    bytes(rt, b"\xEE\x80\x80\xEF\xBF\xBF")?;
-    bytes(rt, b"\xF0\x90\x80\x80\xF0\xBF\xBF\xBF")?;
-    bytes(rt, b"\xF1\x80\x80\x80\xF3\xBF\xBF\xBF")?;
-    bytes(rt, b"\xF4\x80\x80\x80\xF4\x8F\xBF\xBF")?;
-    bytes(rt, b"\xEF\xBB\xBF\x61")
-}
+// U+10302.
+static SEQUENCE: [u8; 4] = [0xF0, 0x90, 0x8C, 0x82];
 
-// Bytes just outside the ranges of that table.
-fn outside(rt: &impl Print) -> io::Result<()> {
-    bytes(rt, b"\x41\x80")?;
-    bytes(rt, b"\x41\xBF")?;
-    bytes(rt, b"\xC1\xBF")?;
-    bytes(rt, b"\xC2\x7F")?;
-    bytes(rt, b"\xC2\xC0")?;
-    bytes(rt, b"\xE0\x9F\x80")?;
-    bytes(rt, b"\xE0\x9F\xBF")?;
-    bytes(rt, b"\xE0\xC0\x80")?;
-    bytes(rt, b"\xE1\x7F\x80")?;
-    bytes(rt, b"\xE1\x80\xC0")?;
-    bytes(rt, b"\xED\xA0\x80")?;
-    bytes(rt, b"\xEF\xBF\x7F")
-}
-
-fn outside_four(rt: &impl Print) -> io::Result<()> {
-    bytes(rt, b"\xF0\x8F\xBF\xBF")?;
-    bytes(rt, b"\xF0\x80\x80\x41")?;
-    bytes(rt, b"\xF0\x90\x7F\x80")?;
-    bytes(rt, b"\xF0\x90\x80\xC0")?;
-    bytes(rt, b"\xF4\x90\x80\x80")?;
-    bytes(rt, b"\xF5\x80\x80\x80")?;
-    bytes(rt, b"\xF0\x90\x8C\x82\xFE")?;
-    bytes(rt, b"\x41\x42\xFF")
-}
-
-// Sequences that the text's end or another character cuts.
-fn cut(rt: &impl Print) -> io::Result<()> {
-    bytes(rt, b"\x41\xC2")?;
-    bytes(rt, b"\x41\xE2\x82")?;
-    bytes(rt, b"\x41\xF0\x90\x8C")?;
-    bytes(rt, b"\xE2\x28\xA1")?;
-    bytes(rt, b"\xE2\x82\x28")?;
-    bytes(rt, b"\xC2\xA0\x80")
-}
-
-// The Unicode Standard's examples of ill-formed sequences, and of one that is well-formed.
-fn ill_formed(rt: &impl Print) -> io::Result<()> {
-    bytes(rt, b"\xC0\xAF\xE0\x80\xBF\xF0\x81\x82\x41")?;
-    bytes(rt, b"\xED\xA0\x80\xED\xBF\xBF\xED\xAF\x41")?;
-    bytes(rt, b"\xF4\x91\x92\x93\xFF\x41\x80\xBF\x42")?;
-    bytes(rt, b"\xE1\x80\xE2\xF0\x91\x92\xF1\xBF\x41")?;
-    bytes(rt, b"\x61\xF1\x80\x80\xE1\x80\xC2\x62\x80\x63\x80\xBF\x64")?;
-    bytes(rt, b"\x41\xC3\xB1\x42")?;
-    bytes(rt, b"\x41\xC2\xC3\xB1\x42")?;
-    bytes(rt, b"\xC2\x41\x42")
-}
-
-const SEQUENCE: [u8; 4] = [0xF0, 0x90, 0x8C, 0x82];
-
-// U+10302 again and again in the first n bytes.
-fn write_fours(all: &mut [u8], n: usize) {
-    let mut i: usize = 0;
-    while i < n {
-        if all.len() <= i {
-            return;
-        }
-        all[i] = SEQUENCE[i % 4];
-        i += 1;
-    }
-}
-
-fn put(all: &mut [u8], at: usize, b: u8) {
-    if at < all.len() {
-        all[at] = b;
-    }
-}
-
-// Opens the first n bytes, with so many cells of the output lent.
-fn open_front(
-    rt: &impl Print,
-    all: &[u8],
-    n: usize,
-    out: &mut [u32],
-    room: usize,
-) -> io::Result<()> {
-    if all.len() < n {
-        return Ok(());
-    }
-    if out.len() < room {
-        return Ok(());
-    }
-    let r = text::utf8::open_bytes(&all[..n], &mut out[..room]);
-    answer(rt, r, out)
-}
+// What a place is printed as that no byte has.
+const NO_PLACE: usize = 70_000;
 
 // So many bytes, the first of them U+10302 again and again and the others `a`, but for FF in the place `bad`; so many cells are lent.
-fn long(rt: &impl Print, n: usize, fours: usize, bad: usize, room: usize) -> io::Result<()> {
+fn long(
+    rt: &impl Print,
+    n: usize,
+    fours: usize,
+    bad: Option<usize>,
+    room: usize,
+) -> io::Result<()> {
     let mut all = lent::bytes();
     let mut out = lent::cells();
-    write_fours(&mut all, fours);
-    put(&mut all, bad, 0xFF);
-    told::numbers(rt, &[n, fours, bad, room])?;
-    open_front(rt, &all, n, &mut out, room)
+    for (b, x) in lent::front_mut(&mut all, fours)
+        .iter_mut()
+        .zip(SEQUENCE.iter().cycle())
+    {
+        *b = *x;
+    }
+    if let Some(b) = bad.and_then(|place| all.get_mut(place)) {
+        *b = 0xFF;
+    }
+    print!(rt; "{n} {fours} {} {room}: ", bad.unwrap_or(NO_PLACE))?;
+    let r = utf8::open_bytes(lent::front(&all, n), lent::front_mut(&mut out, room));
+    answer(rt, r, &out)
 }
-
-// No byte has this place.
-const NONE: usize = 70_000;
 
 // 01: over 65,536 bytes come first, then bad sequences, then over 16,384 characters, then the room.
-fn limits(rt: &impl Print) -> io::Result<()> {
-    say::words(
-        rt,
-        b"Long texts opened: bytes, those of F0 90 8C 82, place of a byte FF (70000: none), room\n",
-    )?;
-    long(rt, 0, 0, NONE, 0)?;
-    long(rt, 16_384, 0, NONE, 16_384)?;
-    long(rt, 16_385, 0, NONE, 16_384)?;
-    long(rt, 65_536, 65_536, NONE, 16_384)?;
-    long(rt, 65_537, 65_536, NONE, 16_384)?;
-    long(rt, 65_536, 0, 0, 16_384)?;
-    long(rt, 65_537, 0, 0, 16_384)?;
-    long(rt, 65_536, 0, 65_535, 0)?;
-    long(rt, 16_385, 0, NONE, 0)?;
-    long(rt, 16_384, 0, NONE, 16_383)
-}
+static LONG: [(usize, usize, Option<usize>, usize); 10] = [
+    (0, 0, None, 0),
+    (16_384, 0, None, 16_384),
+    (16_385, 0, None, 16_384),
+    (65_536, 65_536, None, 16_384),
+    (65_537, 65_536, None, 16_384),
+    (65_536, 0, Some(0), 16_384),
+    (65_537, 0, Some(0), 16_384),
+    (65_536, 0, Some(65_535), 0),
+    (16_385, 0, None, 0),
+    (16_384, 0, None, 16_383),
+];
 
 pub fn tried(rt: &impl Print) -> io::Result<()> {
-    say::words(rt, b"UTF-8\n")?;
-    well_formed(rt)?;
-    outside(rt)?;
-    outside_four(rt)?;
-    cut(rt)?;
-    ill_formed(rt)?;
-    limits(rt)
+    println!(rt; "UTF-8")?;
+    for example in &EXAMPLES {
+        bytes(rt, example)?;
+    }
+    println!(rt;
+        "Long texts opened: bytes, those of F0 90 8C 82, place of a byte FF ({NO_PLACE}: none), room"
+    )?;
+    for &(n, fours, bad, room) in &LONG {
+        long(rt, n, fours, bad, room)?;
+    }
+    Ok(())
 }

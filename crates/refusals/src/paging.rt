@@ -1,103 +1,54 @@
 // Rows read into items and written from them: a page of them by value, for a program lends no slice of structs. It is `read_items` or `write_items` that is refused.
 use crate::lent::FILL;
-use crate::{filled, told};
+use crate::told::Refused;
+use crate::{filled, lent, told};
 use records::page;
 use records::page::Page;
-use runs::item::Item;
+use runs::item::{Item, Row};
 use std::io;
-use text::refusal::Refusal;
 
-fn wide(n: u32) -> usize {
-    n as usize
-}
-
-// The types of the first item and of a page's last.
-fn ends(rt: &impl Print, first: u32, last: u32) -> io::Result<()> {
-    told::number(rt, b"; first ", wide(first))?;
-    told::number(rt, b", last ", wide(last))
-}
-
-// The answer, and the ends: those of the rows, or 0 where no page was read.
-fn answer(rt: &impl Print, r: Result<Page, Refusal>) -> io::Result<()> {
-    match r {
+// A page of the first n rows: the answer, and the types of its first and last item, 0 where no page was read.
+fn page_read(rt: &impl Print, rows: &[Row], n: usize) -> io::Result<()> {
+    print!(rt; "{n}: ")?;
+    match page::page_of(lent::front(rows, n)) {
         Ok(p) => {
-            say::words(rt, b"read")?;
-            ends(rt, p.items[0].number, p.items[Page::ITEMS - 1].number)?;
+            let first = p.items[0].number;
+            let last = p.items[Page::ITEMS - 1].number;
+            println!(rt; "read; first {first}, last {last}")
         }
-        Err(refusal) => {
-            told::refused(rt, u32::from(refusal))?;
-            ends(rt, 0, 0)?;
-        }
+        Err(refusal) => println!(rt; "{}; first 0, last 0", Refused(u32::from(refusal))),
     }
-    say::words(rt, b"\n")
 }
 
-// A page of the first n rows.
-fn page_front(rt: &impl Print, rows: &[[u32; Item::NUMBERS]], n: usize) -> io::Result<()> {
-    if rows.len() < n {
-        return Ok(());
-    }
-    told::numbers(rt, &[n])?;
-    answer(rt, page::page_of(&rows[..n]))
-}
-
-// The ends of a page in the rows, and whether the rows behind it are as before.
-fn written(rt: &impl Print, rows: &[[u32; Item::NUMBERS]]) -> io::Result<()> {
-    if rows.len() < Page::ITEMS {
-        return Ok(());
-    }
-    say::words(rt, b"written")?;
-    ends(
-        rt,
-        rows[0][Item::NUMBER],
-        rows[Page::ITEMS - 1][Item::NUMBER],
-    )?;
-    told::kept(
-        rt,
-        b"; rest of rows",
-        filled::are_filled(rows, Page::ITEMS, FILL),
-    )
-}
-
-// A page written to the first n of rows that were filled before.
-fn rows_front(
-    rt: &impl Print,
-    p: Page,
-    rows: &mut [[u32; Item::NUMBERS]],
-    n: usize,
-) -> io::Result<()> {
-    if rows.len() < n {
-        return Ok(());
-    }
-    told::numbers(rt, &[n])?;
-    match page::rows_of(p, &mut rows[..n]) {
-        Ok(()) => written(rt, rows)?,
-        Err(refusal) => {
-            told::refused(rt, u32::from(refusal))?;
-            told::kept(rt, b"; rows", filled::are_filled(rows, 0, FILL))?;
-        }
-    }
-    say::words(rt, b"\n")
-}
-
-// A page of items of type 5 written to rows.
-fn page_rows(rt: &impl Print, n: usize) -> io::Result<()> {
-    let read = [[5; Item::NUMBERS]; Page::ITEMS];
+// A page written to the first n of rows that were filled before: the types of its ends in the rows, and whether the rows behind it are as before.
+fn page_written(rt: &impl Print, p: Page, n: usize) -> io::Result<()> {
     let mut rows = [[FILL; Item::NUMBERS]; Page::ITEMS + 1];
-    match page::page_of(&read) {
-        Ok(p) => rows_front(rt, p, &mut rows, n),
-        Err(_) => Ok(()),
+    let written = page::rows_of(p, lent::front_mut(&mut rows, n));
+    print!(rt; "{n}: ")?;
+    if let Err(refusal) = written {
+        let whole = told::kept(filled::are_filled(&rows, 0, FILL));
+        return println!(rt; "{}; rows {whole}", Refused(u32::from(refusal)));
     }
+    let first = rows[0][Item::NUMBER];
+    let last = rows[Page::ITEMS - 1][Item::NUMBER];
+    let rest = told::kept(filled::are_filled(&rows, Page::ITEMS, FILL));
+    println!(rt; "written; first {first}, last {last}; rest of rows {rest}")
 }
+
+// As many rows as a page has items, one less and one more.
+static ROWS: [usize; 3] = [Page::ITEMS - 1, Page::ITEMS, Page::ITEMS + 1];
 
 pub fn tried(rt: &impl Print) -> io::Result<()> {
-    say::words(rt, b"Rows read into a page of 32 items: rows\n")?;
+    println!(rt; "Rows read into a page of {} items: rows", Page::ITEMS)?;
     let rows = [[FILL; Item::NUMBERS]; Page::ITEMS + 1];
-    page_front(rt, &rows, Page::ITEMS - 1)?;
-    page_front(rt, &rows, Page::ITEMS)?;
-    page_front(rt, &rows, Page::ITEMS + 1)?;
-    say::words(rt, b"A page of 32 items written to rows: rows\n")?;
-    page_rows(rt, Page::ITEMS - 1)?;
-    page_rows(rt, Page::ITEMS)?;
-    page_rows(rt, Page::ITEMS + 1)
+    for n in &ROWS {
+        page_read(rt, &rows, *n)?;
+    }
+    println!(rt; "A page of {} items written to rows: rows", Page::ITEMS)?;
+    if let Ok(p) = page::page_of(&[[5; Item::NUMBERS]; Page::ITEMS]) {
+        for n in &ROWS {
+            page_written(rt, p, *n)?;
+        }
+    }
+    Ok(())
 }

@@ -1,63 +1,46 @@
-// The answer of a run or a repair printed, with its record.
+// A record printed.
 use crate::lent::FILL;
-use crate::{filled, opening, told};
+use crate::told::{Front, Refused};
+use crate::{filled, told};
 use runs::call::Counts;
-use runs::item::Item;
+use runs::item::Row;
 use std::io;
 use text::refusal::Refusal;
 
-// The first n rows.
-fn rows(rt: &impl Print, all: &[[u32; Item::NUMBERS]], n: usize) -> io::Result<()> {
-    let mut i: usize = 0;
-    while i < n {
-        if all.len() <= i {
-            return Ok(());
-        }
-        say::numbers(rt, &all[i])?;
-        say::words(rt, b"\n")?;
-        i += 1;
+// The numbers of a row, each behind a space.
+fn row(rt: &impl Print, numbers: &Row) -> io::Result<()> {
+    for n in numbers {
+        print!(rt; " {n}")?;
     }
-    Ok(())
-}
-
-// A record; its values if they are few, else their number.
-fn made(
-    rt: &impl Print,
-    all: &[[u32; Item::NUMBERS]],
-    n: usize,
-    store: &[u32],
-    k: usize,
-) -> io::Result<()> {
-    told::number(rt, b"rows ", n)?;
-    say::words(rt, b", values")?;
-    if k < 8 {
-        opening::print_cells(rt, store, k)?;
-    } else {
-        told::number(rt, b", in number ", k)?;
-    }
-    told::kept(rt, b"; rest of rows", filled::are_filled(all, n, FILL))?;
-    told::kept(rt, b", rest of store", filled::is_filled(store, k, FILL))
+    println!(rt)
 }
 
 // The answer for rows and a store that were filled before the call; whether scratch is zero after it.
 pub fn answer(
     rt: &impl Print,
     r: Result<Counts, Refusal>,
-    all: &[[u32; Item::NUMBERS]],
+    all: &[Row],
     store: &[u32],
     zero: bool,
 ) -> io::Result<()> {
-    match r {
-        Ok(Counts { items, cells }) => {
-            made(rt, all, items, store, cells)?;
-            told::cleared(rt, zero)?;
-            rows(rt, all, items)
-        }
+    let scratch = told::cleared(zero);
+    let Counts { items, cells } = match r {
+        Ok(counts) => counts,
         Err(refusal) => {
-            told::refused(rt, u32::from(refusal))?;
-            told::kept(rt, b"; rows", filled::are_filled(all, 0, FILL))?;
-            told::kept(rt, b", store", filled::is_filled(store, 0, FILL))?;
-            told::cleared(rt, zero)
+            let rows = told::kept(filled::are_filled(all, 0, FILL));
+            let values = told::kept(filled::is_filled(store, 0, FILL));
+            let refused = Refused(u32::from(refusal));
+            return println!(rt; "{refused}; rows {rows}, store {values}, {scratch}");
         }
+    };
+    let values = Front(store, cells, "in number");
+    let rest = told::kept(filled::are_filled(all, items, FILL));
+    let behind = told::kept(filled::is_filled(store, cells, FILL));
+    println!(rt;
+        "rows {items}, values{values}; rest of rows {rest}, rest of store {behind}, {scratch}"
+    )?;
+    for numbers in all.iter().take(items) {
+        row(rt, numbers)?;
     }
+    Ok(())
 }

@@ -1,150 +1,113 @@
 // A run: refused by the host, at the limits of a text, and ended by a refusal of the text.
-use crate::lent::FILL;
 use crate::{filled, lent, lexing, rows, told};
 use lexer::flags::Flags;
 use lexer::token_type::TokenType;
-use runs::item::Item;
 use runs::room::Room;
 use scope::lent::Lent;
 use std::io;
 use text::utf8::Text;
+use tokens::call;
 
-// A run over the first n characters, with so many rows, store cells and scratch cells lent.
-fn run_front(
+// A run with so many rows, store cells and scratch cells lent.
+fn run(
     rt: &impl Print,
     text: &[u32],
-    n: usize,
     flags: u32,
     contexts: usize,
-    all: &mut [[u32; Item::NUMBERS]],
     items: usize,
-    store: &mut [u32],
     values: usize,
-    free: &mut [u32],
     scratch: usize,
 ) -> io::Result<()> {
-    if text.len() < n {
-        return Ok(());
-    }
-    if all.len() < items {
-        return Ok(());
-    }
-    if store.len() < values {
-        return Ok(());
-    }
-    if free.len() < scratch {
-        return Ok(());
-    }
     let slots = lent::slots();
     let names = lent::names();
+    let mut all = lent::rows();
+    let mut store = lent::cells();
+    let mut free = lent::cells();
     let scope = Lent {
         counts: told::empty_scope(contexts),
         slots: &slots,
         names: &names,
     };
     let mut room = Room {
-        rows: &mut all[..items],
-        store: &mut store[..values],
-        scratch: &mut free[..scratch],
+        rows: lent::front_mut(&mut all, items),
+        store: lent::front_mut(&mut store, values),
+        scratch: lent::front_mut(&mut free, scratch),
     };
     let made = runs::run::run(
-        &text[..n],
+        text,
         TokenType::START_EXPRESSION,
         Flags::from_bits(flags),
         scope,
         &mut room,
     );
-    let zero = filled::is_filled(&free[..scratch], 0, 0);
-    rows::answer(rt, made, all, store, zero)
+    let zero = filled::is_filled(lent::front(&free, scratch), 0, 0);
+    rows::answer(rt, made, &all, &store, zero)
 }
 
-// A run over so many times `a`.
-fn host(
-    rt: &impl Print,
-    n: usize,
-    contexts: usize,
-    items: usize,
-    values: usize,
-    scratch: usize,
-) -> io::Result<()> {
-    told::numbers(rt, &[n, contexts, items, values, scratch])?;
-    let text = lent::text(0x61);
-    let mut all = lent::rows();
-    let mut store = lent::cells();
-    let mut free = lent::cells();
-    run_front(
-        rt, &text, n, 0, contexts, &mut all, items, &mut store, values, &mut free, scratch,
-    )
-}
+const N: usize = Text::MAX_CHARS;
 
+// Characters, contexts, rows, store, scratch.
 // 01: 1, 10, 9. In the first calls the causes behind hold, too.
-fn hosts(rt: &impl Print) -> io::Result<()> {
-    let n = Text::MAX_CHARS;
-    host(rt, n + 1, 33, 0, 0, 0)?;
-    host(rt, 2, 33, 0, 0, 0)?;
-    host(rt, 2, 1, 3, 2, 4)?;
-    host(rt, 2, 1, 4, 1, 4)?;
-    host(rt, 2, 1, 4, 2, 3)?;
-    host(rt, 2, 1, 4, 2, 4)?;
-    host(rt, n + 1, 1, n + 3, n + 1, 2 * n + 2)?;
-    host(rt, n, 1, n + 2, n, 2 * n)?;
-    host(rt, 0, 1, 2, 0, 0)
-}
+static HOSTS: [[usize; 5]; 9] = [
+    [N + 1, 33, 0, 0, 0],
+    [2, 33, 0, 0, 0],
+    [2, 1, 3, 2, 4],
+    [2, 1, 4, 1, 4],
+    [2, 1, 4, 2, 3],
+    [2, 1, 4, 2, 4],
+    [N + 1, 1, N + 3, N + 1, 2 * N + 2],
+    [N, 1, N + 2, N, 2 * N],
+    [0, 1, 2, 0, 0],
+];
 
 // A token call, by value and on a lent lexer, and a run that the text refuses.
-fn both(rt: &impl Print, text: &[u32], n: usize) -> io::Result<()> {
-    let mut all = [[FILL; Item::NUMBERS]; 18];
-    let mut store = [FILL; 16];
-    let mut free = [FILL; 32];
-    let k = n % 32;
-    say::words(rt, b": ")?;
-    lexing::behind(rt, false, text, n)?;
-    say::words(rt, b"  lent: ")?;
-    lexing::behind(rt, true, text, n)?;
-    say::words(rt, b"  run: ")?;
-    run_front(
-        rt,
-        text,
-        n,
-        Flags::ALL,
-        1,
-        &mut all,
-        k + 2,
-        &mut store,
-        k,
-        &mut free,
-        2 * k,
-    )
+fn both(rt: &impl Print, text: &[u32]) -> io::Result<()> {
+    print!(rt; ": ")?;
+    lexing::behind(rt, &call::next_token, text)?;
+    print!(rt; "  lent: ")?;
+    lexing::behind(rt, &lexing::on_lent, text)?;
+    print!(rt; "  run: ")?;
+    run(rt, text, Flags::ALL, 1, 18, 16, 32)
 }
 
-// A text in ASCII, whose first token is `1`, and which is refused behind that.
-fn refused(rt: &impl Print, bytes: &[u8]) -> io::Result<()> {
-    let mut cells = [0u32; 16];
-    let r = text::utf8::open_bytes(bytes, &mut cells);
-    say::words(rt, bytes)?;
-    match r {
-        Ok(t) => both(rt, &cells, t.chars),
+// Texts in ASCII, whose first token is `1`, and which are refused behind that: refusals 3, 4, 5 twice, 6, 7 and 8.
+static REFUSED: [&str; 7] = [
+    "1 \"\\u12\"",
+    "1 \"\\u12",
+    "1 \"\\uDC00\"",
+    "1 \"\\U110000\"",
+    "1 \"\\uD83D\\u0041\"",
+    "1 \"\\uD83D\"",
+    "1 in+",
+];
+
+fn refused(rt: &impl Print, text: &str) -> io::Result<()> {
+    let mut cells = [0; 16];
+    print!(rt; "{text}")?;
+    match text::utf8::open_bytes(text.as_bytes(), &mut cells) {
+        Ok(t) => both(rt, lent::front(&cells, t.chars)),
         Err(_) => Ok(()),
     }
 }
 
-// Refusals 3, 4, 5 twice, 6, 7 and 8.
-fn texts(rt: &impl Print) -> io::Result<()> {
-    refused(rt, b"1 \"\\u12\"")?;
-    refused(rt, b"1 \"\\u12")?;
-    refused(rt, b"1 \"\\uDC00\"")?;
-    refused(rt, b"1 \"\\U110000\"")?;
-    refused(rt, b"1 \"\\uD83D\\u0041\"")?;
-    refused(rt, b"1 \"\\uD83D\"")?;
-    refused(rt, b"1 in+")
-}
-
 pub fn tried(rt: &impl Print) -> io::Result<()> {
-    say::words(rt, b"Runs: characters, contexts, rows, store, scratch\n")?;
-    hosts(rt)?;
-    say::words(
-        rt,
-        b"Refused by the text: the token call from 2 on, and the run, all flags set\n",
-    )?;
-    texts(rt)
+    println!(rt; "Runs: characters, contexts, rows, store, scratch")?;
+    let text = lent::text(0x61);
+    for &[n, contexts, items, values, scratch] in &HOSTS {
+        print!(rt; "{n} {contexts} {items} {values} {scratch}: ")?;
+        run(
+            rt,
+            lent::front(&text, n),
+            0,
+            contexts,
+            items,
+            values,
+            scratch,
+        )?;
+    }
+    println!(rt; "Refused by the text: the token call from 2 on, and the run, all flags set")?;
+    for text in &REFUSED {
+        refused(rt, text)?;
+    }
+    Ok(())
 }

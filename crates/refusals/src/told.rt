@@ -2,7 +2,8 @@
 ghost use Rattle.std.specs.Prelude.{◌≡◌};
 
 use scope::scope::Scope;
-use std::io;
+use std::fmt;
+use std::fmt::{Display, UpperHex};
 
 // A scope of so many empty contexts; over 32 it is broken.
 pub fn empty_scope(contexts: usize) -> Scope
@@ -15,42 +16,54 @@ pub fn empty_scope(contexts: usize) -> Scope
     }
 }
 
-// A number behind a word.
-pub fn number(rt: &impl Print, front: &[u8], n: usize) -> io::Result<()> {
-    say::words(rt, front)?;
-    say::decimal(rt, n)
+// Numbers in hexadecimal, each behind a space.
+#[derive(Clone, Copy)]
+pub struct Hex<'a, T>(pub &'a [T]);
+
+impl<T: UpperHex> Display for Hex<'_, T> {
+    fn fmt<W: fmt::Write>(&self, f: &mut fmt::Formatter<W>) -> fmt::Result {
+        for x in self.0 {
+            f.write_str(" ")?;
+            UpperHex::fmt(x, f)?;
+        }
+        Ok(())
+    }
 }
 
-// What a trial is made with, in the order that the heading gives.
-pub fn numbers(rt: &impl Print, all: &[usize]) -> io::Result<()> {
-    let mut i: usize = 0;
-    while i < all.len() {
-        if 0 < i {
-            say::words(rt, b" ")?;
+// The first n cells if they are few, else their number behind a word.
+#[derive(Clone, Copy)]
+pub struct Front<'a>(pub &'a [u32], pub usize, pub &'static str);
+
+impl Display for Front<'_> {
+    fn fmt<W: fmt::Write>(&self, f: &mut fmt::Formatter<W>) -> fmt::Result {
+        let Front(cells, n, word) = *self;
+        match cells.get(..n) {
+            Some(few) if n < 8 => write!(f, "{}", Hex(few)),
+            _ => write!(f, ", {word} {n}"),
         }
-        say::decimal(rt, all[i])?;
-        i += 1;
     }
-    say::words(rt, b": ")
 }
 
 // The number of a refusal.
-pub fn refused(rt: &impl Print, n: u32) -> io::Result<()> {
-    number(rt, b"refused with ", n as usize)
-}
+#[derive(Clone, Copy)]
+pub struct Refused(pub u32);
 
-// Whether what is named is as before the call.
-pub fn kept(rt: &impl Print, what: &[u8], same: bool) -> io::Result<()> {
-    say::words(rt, what)?;
-    if same {
-        return say::words(rt, b" as before");
+impl Display for Refused {
+    fn fmt<W: fmt::Write>(&self, f: &mut fmt::Formatter<W>) -> fmt::Result {
+        write!(f, "refused with {}", self.0)
     }
-    say::words(rt, b" CHANGED")
 }
 
-pub fn cleared(rt: &impl Print, zero: bool) -> io::Result<()> {
+// Whether a slice is as before the call.
+pub fn kept(same: bool) -> &'static str {
+    if same { "as before" } else { "CHANGED" }
+}
+
+// Whether scratch is zero behind the call.
+pub fn cleared(zero: bool) -> &'static str {
     if zero {
-        return say::words(rt, b", scratch zero\n");
+        "scratch zero"
+    } else {
+        "scratch NOT ZERO"
     }
-    say::words(rt, b", scratch NOT ZERO\n")
 }
