@@ -5,8 +5,8 @@ use mathlib.Core.List.{List, [], ◌∷◌, map}
 use Prim.Native.Nat.{ℕ, suc, ◌+◌, ◌≤◌, ◌<◌}
 use native.Mathlib.Numerals.{add-one}
 use native.Mathlib.Omega.{arith}
-use lib.Dec.{leb, eqb}
-use borrow.Author.Tests.{leb-true, le-leb, lt-leb, eqb-true, eq-eqb}
+use lib.Dec.{leb, ltb, eqb}
+use borrow.Author.Tests.{leb-true, ltb-true, le-leb, lt-leb, eqb-true, eq-eqb}
 use lib.ListN.{length, get_or, drop, drop_of_length-le}
 use lib.Seq.{drop-cons}
 use Rattle.reading.specs.Cells.{is_one_of}
@@ -113,6 +113,35 @@ same_class {rs} {c} f ss h g = f.answer ∙ go (among rs c) (among ss c) (among-
     go false true f g = g refl
     go false false f g = refl
 
+-- The range meets none of the table's.
+unfoldable pub apart : List ℕ → List (List ℕ) → Bool
+apart r [] = true
+apart r (s ∷ ss) = (ltb (get_or r 1 0) (get_or s 0 0) || ltb (get_or s 1 0) (get_or r 0 0)) && apart r ss
+
+apart_none : (r : List ℕ) (ss : List (List ℕ)) (c : ℕ) → apart r ss ≡ true → get_or r 0 0 ≤ c → c ≤ get_or r 1 0 → among ss c ≡ false
+unfolding apart among
+apart_none r [] c h l g = refl
+apart_none r (s ∷ ss) c h l g =
+    let k = both (ltb (get_or r 1 0) (get_or s 0 0) || ltb (get_or s 1 0) (get_or r 0 0)) (apart r ss) h in
+    let rest = apart_none r ss c k.1 l g in
+    either (ltb (get_or r 1 0) (get_or s 0 0)) k.0
+    (λ e. let z = ltb-true (get_or r 1 0) (get_or s 0 0) e in rw (lt-leb (get_or s 0 0) c (omega arith), rest))
+    (λ e. let z = ltb-true (get_or s 1 0) (get_or r 0 0) e in rw (lt-leb c (get_or s 1 0) (omega arith), rest) (and_none (leb (get_or s 0 0) c)))
+  where
+    and_none : (a : Bool) → (a && false) || false ≡ false
+    and_none true = refl
+    and_none false = refl
+
+-- What a range says of a character in it: all of it is in the class, or none.
+module _ (r : List ℕ) (ss : List (List ℕ)) (c : ℕ) {b : Bool} (w : b ≡ within r c) (t : b ≡ true) where
+  pub all_in : covered r ss ≡ true → true ≡ among ss c
+  all_in h = sym (within-covered r ss c h (sym w ∙ t))
+
+  pub all_out : apart r ss ≡ true → false ≡ among ss c
+  all_out h =
+      let k = both (leb (get_or r 0 0) c) (leb c (get_or r 1 0)) (sym w ∙ t) in
+      sym (apart_none r ss c h (leb-true (get_or r 0 0) c k.0) (leb-true c (get_or r 1 0) k.1))
+
 equal_within : (x c : ℕ) → eqb x c ≡ within (only x) c
 equal_within x c = go (eqb x c) refl (within (only x) c) refl
   where
@@ -130,6 +159,10 @@ one_of_ranges (x ∷ xs) c = ap₂ (equal_within x c) (one_of_ranges xs c)
   where
     ap₂ : {a a' b b' : Bool} → a ≡ a' → b ≡ b' → (a || b) ≡ (a' || b')
     ap₂ p q = rw (p, q)
+
+-- A range that meets none of the list.
+pub none_of : (r : List ℕ) (xs : List ℕ) (c : ℕ) {b : Bool} → b ≡ within r c → b ≡ true → apart r (map only xs) ≡ true → false ≡ is_one_of xs c
+none_of r xs c w t h = all_out r (map only xs) c w t h ∙ sym (one_of_ranges xs c)
 
 -- A table and a list that cover each other are one class.
 pub same_list_lem : {rs : List (List ℕ)} {c : ℕ} {r : Bool} → Found rs c r → (xs : List ℕ) → all_covered rs (map only xs) ≡ true → all_covered (map only xs) rs ≡ true → r ≡ is_one_of xs c
