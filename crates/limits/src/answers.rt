@@ -10,11 +10,13 @@ pub struct Answer(pub Result<Scope, Refusal>);
 impl fmt::Display for Answer {
     fn fmt<W: fmt::Write>(&self, f: &mut fmt::Formatter<W>) -> fmt::Result {
         match self.0 {
-            Ok(Scope {
-                contexts,
-                entries,
-                parsed,
-            }) => write!(
+            Ok(
+                Scope {
+                    contexts,
+                    entries,
+                    parsed,
+                },
+            ) => write!(
                 f,
                 "done, contexts {contexts}, entries {entries}, parsed names {parsed}"
             ),

@@ -29,8 +29,7 @@ impl Held {
             slots: &self.slots,
             names: &self.names,
         };
-        lent.checked()
-            .is_ok_and(|scope| keys::is_name(scope, text))
+        lent.checked().is_ok_and(|scope| keys::is_name(scope, text))
     }
 
     // Makes the call that comes next.

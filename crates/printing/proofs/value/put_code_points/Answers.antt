@@ -16,12 +16,12 @@ pub put_number-requires : goal.put_number-requires
 put_number-requires c =
     let v = c.args.value.now in
     elim c.if-i-gt0.branch [
-      then-i-gt0 w ↦
-        let r = rw (lt-ltb _ _ w.if-i-gt0.true) at (writing_room point v 0 c.loop-i.invariant c.loop-i-test.true) in
-        (omega arith, omega arith, omega (arith, r, ap length w.out-is, ap length w.push.ensures, length-append {A = ℕ}, ap length (points v)))
+      | then-i-gt0 w ↦
+          let r = rw (lt-ltb _ _ w.if-i-gt0.true) at (writing_room point v 0 c.loop-i.invariant c.loop-i-test.true) in
+          (omega arith, omega arith, omega (arith, r, ap length w.out-is, ap length w.push.ensures, length-append {A = ℕ}, ap length (points v)))
       | else-i-gt0 w ↦
-        let r = rw (le-ltb _ _ w.if-i-gt0.false) at (writing_room point v 0 c.loop-i.invariant c.loop-i-test.true) in
-        (omega arith, omega arith, omega (arith, r, ap length w.out-is, ap length (points v)))
+          let r = rw (le-ltb _ _ w.if-i-gt0.false) at (writing_room point v 0 c.loop-i.invariant c.loop-i-test.true) in
+          (omega arith, omega arith, omega (arith, r, ap length w.out-is, ap length (points v)))
     ]
 
 pub returns : goal.returns
