@@ -1,5 +1,6 @@
 -- What the code of strings answers, in the terms of the readings.
-use Rattle.std.specs.Prelude.{◌≡◌, cond, List, [], ℕ, ◌+◌, ◌≤◌, ◌<◌, eqb, length, get_or, Option, None, Some}
+use Rattle.std.specs.Prelude.{◌≡◌, List, [], ℕ, ◌+◌, ◌≤◌, length, Result, Ok, Err}
+use Rattle.text.specs.Refusals.{number_of}
 use Rattle.reading.specs.Look.{Look}
 use Rattle.reading.specs.Goes.{Goes}
 use Rattle.reading.specs.Slices.{Wrote}
@@ -8,69 +9,64 @@ use Rattle.lexer.specs.Text as spec
 use Rattle.lexer.specs.Token.{fuel}
 use Rattle.lexer.specs.TokenType
 use Rattle.lexer.specs.declared.string.Literal.{Literal}
-use Rattle.lexer.specs.declared.string.Literal.TheVariants.{Chars, LineEnds, TextEnds, Broken}
-use Rattle.lexer.specs.declared.string.Hex.{Hex}
-use Rattle.lexer.specs.declared.string.Hex.TheVariants.{Value, NoDigit}
+use Rattle.lexer.specs.declared.string.Literal.TheVariants.{Chars, LineEnds, TextEnds}
+use Rattle.lexer.specs.declared.string.Broken.{Broken}
 use Rattle.lexer.specs.declared.string.Piece.{Piece}
-use Rattle.lexer.specs.declared.string.Piece.TheVariants.{Char, Quote, LineEnd, TextEnd, Refused}
+use Rattle.lexer.specs.declared.string.Piece.TheVariants.{Char, Quote, LineEnd, TextEnd}
 
--- what a plain escape stands for; 0 says that it is none
-abbrev pub as_plain : ℕ → Option ℕ
-as_plain c = cond (eqb c 0) None (Some c)
-
-abbrev pub hex_of : Hex → spec.Hex
-hex_of (Value v) = spec.value v
-hex_of (NoDigit m k j) = spec.no_digit m k j
+abbrev pub hex_of : Result ℕ Broken → spec.Hex
+hex_of (Ok v) = spec.value v
+hex_of (Err b) = spec.no_digit (number_of b.refusal) b.carry b.place
 
 -- the reach after n digits from i on were due
-abbrev pub hex_reach : ℕ → ℕ → Hex → ℕ
-hex_reach i n (Value v) = i + n
-hex_reach i n (NoDigit m k j) = j + 1
+abbrev pub hex_reach : ℕ → ℕ → Result ℕ Broken → ℕ
+hex_reach i n (Ok v) = i + n
+hex_reach i n (Err b) = b.reach
 
-abbrev pub hex_end : ℕ → ℕ → Hex → ℕ
-hex_end i n (Value v) = i + n
-hex_end i n (NoDigit m k j) = j
+abbrev pub hex_end : ℕ → ℕ → Result ℕ Broken → ℕ
+hex_end i n (Ok v) = i + n
+hex_end i n (Err b) = b.place
 
 -- the piece that an answer means, behind the cells so far
-abbrev pub piece_of : List ℕ → Piece → spec.Piece
-piece_of sofar (Char c j) = spec.char c j
-piece_of sofar (Quote j) = spec.stop (token TokenType.String (chars sofar)) j
-piece_of sofar (LineEnd j) = spec.stop (token TokenType.YyUndef nothing) j
-piece_of sofar (TextEnd j) = spec.stop (token TokenType.YyEof nothing) j
-piece_of sofar (Refused m k j q) = spec.stop (refused m k) j
+abbrev pub piece_of : List ℕ → Result Piece Broken → spec.Piece
+piece_of sofar (Ok (Char c j)) = spec.char c j
+piece_of sofar (Ok (Quote j)) = spec.stop (token TokenType.String (chars sofar)) j
+piece_of sofar (Ok (LineEnd j)) = spec.stop (token TokenType.YyUndef nothing) j
+piece_of sofar (Ok (TextEnd j)) = spec.stop (token TokenType.YyEof nothing) j
+piece_of sofar (Err b) = spec.stop (refused (number_of b.refusal) b.carry) b.place
 
 -- between these lies the reach after a piece; a piece behind which more is read leaves it open by one
-abbrev pub lowest : Piece → ℕ
-lowest (Char c j) = 0
-lowest (Quote j) = j + 1
-lowest (LineEnd j) = j + 2
-lowest (TextEnd j) = j + 2
-lowest (Refused m k j q) = q
+abbrev pub lowest : Result Piece Broken → ℕ
+lowest (Ok (Char c j)) = 0
+lowest (Ok (Quote j)) = j + 1
+lowest (Ok (LineEnd j)) = j + 2
+lowest (Ok (TextEnd j)) = j + 2
+lowest (Err b) = b.reach
 
-abbrev pub highest : Piece → ℕ
-highest (Char c j) = j + 1
-highest (Quote j) = j + 1
-highest (LineEnd j) = j + 2
-highest (TextEnd j) = j + 2
-highest (Refused m k j q) = q
+abbrev pub highest : Result Piece Broken → ℕ
+highest (Ok (Char c j)) = j + 1
+highest (Ok (Quote j)) = j + 1
+highest (Ok (LineEnd j)) = j + 2
+highest (Ok (TextEnd j)) = j + 2
+highest (Err b) = b.reach
 
-abbrev pub end_of : Piece → ℕ
-end_of (Char c j) = j
-end_of (Quote j) = j
-end_of (LineEnd j) = j
-end_of (TextEnd j) = j
-end_of (Refused m k j q) = j
+abbrev pub end_of : Result Piece Broken → ℕ
+end_of (Ok (Char c j)) = j
+end_of (Ok (Quote j)) = j
+end_of (Ok (LineEnd j)) = j
+end_of (Ok (TextEnd j)) = j
+end_of (Err b) = b.place
 
 -- the first place at which a piece from i on may end
-abbrev pub least_end : ℕ → Piece → ℕ
-least_end i (Char c j) = i + 1
-least_end i (Quote j) = i
-least_end i (LineEnd j) = i
-least_end i (TextEnd j) = i
-least_end i (Refused m k j q) = i
+abbrev pub least_end : ℕ → Result Piece Broken → ℕ
+least_end i (Ok (Char c j)) = i + 1
+least_end i (Ok (Quote j)) = i
+least_end i (Ok (LineEnd j)) = i
+least_end i (Ok (TextEnd j)) = i
+least_end i (Err b) = i
 
 -- with r as the reach so far, the reading m gives the answer p, from i on
-pub record Pieced (t : List ℕ) (r : ℕ) (m : List ℕ → Look spec.Piece) (i : ℕ) (p : Piece) : Type 0 where
+pub record Pieced (t : List ℕ) (r : ℕ) (m : List ℕ → Look spec.Piece) (i : ℕ) (p : Result Piece Broken) : Type 0 where
   pub reach : ℕ
   pub low : lowest p ≤ reach
   pub high : reach ≤ highest p
@@ -78,43 +74,42 @@ pub record Pieced (t : List ℕ) (r : ℕ) (m : List ℕ → Look spec.Piece) (i
   pub within : end_of p ≤ length t
   pub goes : (sofar : List ℕ) → Goes t r (m sofar) (piece_of sofar p) reach
 
--- the character at i stands for itself, whatever the reach so far
-pub record Plain (t : List ℕ) (i : ℕ) : Type 0 where
-  pub there : i < length t
-  pub piece : (r : ℕ) → r ≤ i + 1 → Pieced t r (λ sofar. spec.read_piece i sofar) i (Char (get_or t i 0) (i + 1))
+-- the piece of a string's inside at i, whatever the reach so far
+abbrev pub At : List ℕ → ℕ → Result Piece Broken → Type 0
+At t i p = (r : ℕ) → r ≤ i + 1 → Pieced t r (λ sofar. spec.read_piece i sofar) i p
 
-pub record Hexed (t : List ℕ) (i n : ℕ) (h : Hex) : Type 0 where
+pub record Hexed (t : List ℕ) (i n : ℕ) (h : Result ℕ Broken) : Type 0 where
   pub from : i ≤ hex_end i n h
   pub within : hex_end i n h ≤ length t
   pub goes : Goes t i (spec.read_hex n 0 i) (hex_of h) (hex_reach i n h)
 
 -- the reading that an answer about a string's inside means, its characters being cells
-abbrev pub text_of : List ℕ → Literal → Read
-text_of cells (Chars n e) = token TokenType.String (chars cells)
-text_of cells (LineEnds e) = token TokenType.YyUndef nothing
-text_of cells (TextEnds e) = token TokenType.YyEof nothing
-text_of cells (Broken m k e q) = refused m k
+abbrev pub text_of : List ℕ → Result Literal Broken → Read
+text_of cells (Ok (Chars n e)) = token TokenType.String (chars cells)
+text_of cells (Ok (LineEnds e)) = token TokenType.YyUndef nothing
+text_of cells (Ok (TextEnds e)) = token TokenType.YyEof nothing
+text_of cells (Err b) = refused (number_of b.refusal) b.carry
 
-abbrev pub text_end : Literal → ℕ
-text_end (Chars n e) = e
-text_end (LineEnds e) = e
-text_end (TextEnds e) = e
-text_end (Broken m k e q) = e
+abbrev pub text_end : Result Literal Broken → ℕ
+text_end (Ok (Chars n e)) = e
+text_end (Ok (LineEnds e)) = e
+text_end (Ok (TextEnds e)) = e
+text_end (Err b) = b.place
 
-abbrev pub text_reach : Literal → ℕ
-text_reach (Chars n e) = e + 1
-text_reach (LineEnds e) = e + 2
-text_reach (TextEnds e) = e + 2
-text_reach (Broken m k e q) = q
+abbrev pub text_reach : Result Literal Broken → ℕ
+text_reach (Ok (Chars n e)) = e + 1
+text_reach (Ok (LineEnds e)) = e + 2
+text_reach (Ok (TextEnds e)) = e + 2
+text_reach (Err b) = b.reach
 
-abbrev pub text_count : Literal → ℕ
-text_count (Chars n e) = n
-text_count (LineEnds e) = 0
-text_count (TextEnds e) = 0
-text_count (Broken m k e q) = 0
+abbrev pub text_count : Result Literal Broken → ℕ
+text_count (Ok (Chars n e)) = n
+text_count (Ok (LineEnds e)) = 0
+text_count (Ok (TextEnds e)) = 0
+text_count (Err b) = 0
 
 -- the reading of a string's inside from i on gives the answer x, which counts the cells
-pub record Inside (t : List ℕ) (i : ℕ) (x : Literal) : Type 0 where
+pub record Inside (t : List ℕ) (i : ℕ) (x : Result Literal Broken) : Type 0 where
   pub cells : List ℕ
   pub count : text_count x ≡ length cells
   pub from : i + text_count x ≤ text_end x

@@ -1,9 +1,9 @@
 // String literals, in two passes: the first reads without writing, so that a string that breaks off has written nothing.
-ghost use Rattle.std.specs.Prelude.{◌≡◌, true, ◌||◌, ℕ, ◌+◌, ◌-◌, ◌*◌, ◌≤◌, ◌<◌, eqb, length};
+ghost use Rattle.std.specs.Prelude.{◌≡◌, not, ◌||◌, ◌+◌, ◌-◌, ◌*◌, ◌≤◌, ◌<◌, eqb, length};
 ghost use Rattle.text.specs.Limits.{max_chars};
-ghost use Rattle.lexer.specs.Read as read;
+ghost use Rattle.text.specs.Classes.{is_vertical_space};
 ghost use Rattle.lexer.specs.Text as spec;
-ghost use Rattle.lexer.specs.Pieces.{as_plain, Hexed, Pieced, Plain, Inside, Written};
+ghost use Rattle.lexer.specs.Pieces.{Hexed, Pieced, At, Inside, Written};
 
 use text::chars::Char;
 use text::classes::{Class, VerticalSpace};
@@ -24,54 +24,57 @@ const FIRST_PAIRED: u32 = 0x10000;
 
 const LAST_SCALAR: u32 = 0x10FFFF;
 
-// The value of hexadecimal digits; or number, carry and place of a refusal.
+// Why a string is refused, what the refusal carries, its place and its reach.
 #[derive(Clone, Copy)]
-pub enum Hex {
-    Value(u32),
-    NoDigit(u32, u32, usize),
+pub struct Broken {
+    pub refusal: Refusal,
+    pub carry: u32,
+    pub place: usize,
+    pub reach: usize,
 }
 
 // The value of `count` digits from `from` on, 4 or 6.
-fn read_hex(rest: &[u32], from: usize, count: usize) -> Hex
+fn read_hex(rest: &[u32], from: usize, count: usize) -> Result<u32, Broken>
     requires { (length rest.now ≤ max_chars) × (count ≤ 6) × (from ≤ length rest.now) }
     ensures { Hexed rest.now from count result }
 {
-    let mut value: u32 = 0;
-    let mut at = from;
-    let mut left = count;
-    while 0 < left {
-        if rest.len() <= at {
-            return Hex::NoDigit(Refusal::END_AT_HEX_DIGIT, 0, at);
-        }
-        let c = rest[at];
-        let Some(d) = text::hex::hex_to_decimal(c) else {
-            return Hex::NoDigit(Refusal::NO_HEX_DIGIT, c, at);
+    let mut value = 0;
+    for at in from..from + count {
+        let Some(c) = rest.get(at) else {
+            return Err(Broken {
+                refusal: Refusal::EndAtHexDigit,
+                carry: 0,
+                place: at,
+                reach: at + 1,
+            });
         };
-        value = value * 16 + d;
-        at += 1;
-        left -= 1;
+        let Some(digit) = text::hex::hex_to_decimal(*c) else {
+            return Err(Broken {
+                refusal: Refusal::NoHexDigit,
+                carry: *c,
+                place: at,
+                reach: at + 1,
+            });
+        };
+        value = value * 16 + digit;
     }
-    Hex::Value(value)
+    Ok(value)
 }
 
-// A character and the place behind it; where the quote, a line's end or the text's end stands; or number, carry, place and reach of a refusal.
+// A character and the place behind it; or where the quote, a line's end or the text's end stands.
 #[derive(Clone, Copy)]
 pub enum Piece {
     Char(u32, usize),
     Quote(usize),
     LineEnd(usize),
     TextEnd(usize),
-    Refused(u32, u32, usize, usize),
 }
 
 // How many digits follow the letter of an escape.
 fn digit_count(x: u32) -> usize
     ensures { (result ≡ spec.digit_count x) × (0 < result) × (result ≤ 6) }
 {
-    if Char::CAPITAL_U == x {
-        return 6;
-    }
-    4
+    if Char::CAPITAL_U == x { 6 } else { 4 }
 }
 
 // The character of a pair: ten bits of each half.
@@ -83,187 +86,157 @@ fn paired(h: u32, l: u32) -> u32
 }
 
 // The second half of a pair, whose first half is h and ended at i.
-fn read_second_half(rest: &[u32], h: u32, i: usize) -> Piece
+fn read_second_half(rest: &[u32], h: u32, i: usize) -> Result<Piece, Broken>
     requires { (length rest.now ≤ max_chars) × (i ≤ length rest.now) × (0xD800 ≤ h) × (h ≤ 0xDBFF) }
     ensures { Pieced rest.now i (λ _. spec.read_second_half h i) i result }
 {
-    if rest.len() <= i + 1 {
-        return Piece::Refused(Refusal::END_AT_SECOND_HALF, 0, i, i + 2);
+    let Some(letter) = rest.get(i + 1) else {
+        return Err(Broken {
+            refusal: Refusal::EndAtSecondHalf,
+            carry: 0,
+            place: i,
+            reach: i + 2,
+        });
+    };
+    let n = digit_count(*letter);
+    let l = read_hex(rest, i + 2, n)?;
+    let end = i + 2 + n;
+    if l < SECOND_HALF || LAST_SECOND_HALF < l {
+        return Err(Broken {
+            refusal: Refusal::NoSecondHalf,
+            carry: l,
+            place: end,
+            reach: end,
+        });
     }
-    let n = digit_count(rest[i + 1]);
-    let r = read_hex(rest, i + 2, n);
-    match r {
-        Hex::Value(l) => {
-            if l < SECOND_HALF {
-                return Piece::Refused(Refusal::NO_SECOND_HALF, l, i + 2 + n, i + 2 + n);
-            }
-            if LAST_SECOND_HALF < l {
-                return Piece::Refused(Refusal::NO_SECOND_HALF, l, i + 2 + n, i + 2 + n);
-            }
-            Piece::Char(paired(h, l), i + 2 + n)
-        }
-        Hex::NoDigit(m, k, j) => Piece::Refused(m, k, j, j + 1),
-    }
+    Ok(Piece::Char(paired(h, l), end))
 }
 
 // An escape with n digits from i on.
-fn read_unicode(rest: &[u32], i: usize, n: usize) -> Piece
+fn read_unicode(rest: &[u32], i: usize, n: usize) -> Result<Piece, Broken>
     requires { (length rest.now ≤ max_chars) × (i ≤ length rest.now) × (0 < n) × (n ≤ 6) }
     ensures { Pieced rest.now i (λ _. spec.read_unicode n i) i result }
 {
-    let r = read_hex(rest, i, n);
-    match r {
-        Hex::Value(v) => {
-            if v < FIRST_HALF {
-                return Piece::Char(v, i + n);
-            }
-            if v <= LAST_FIRST_HALF {
-                return read_second_half(rest, v, i + n);
-            }
-            if v <= LAST_SECOND_HALF {
-                return Piece::Refused(Refusal::NO_SCALAR_VALUE, v, i + n, i + n);
-            }
-            if LAST_SCALAR < v {
-                return Piece::Refused(Refusal::NO_SCALAR_VALUE, v, i + n, i + n);
-            }
-            Piece::Char(v, i + n)
-        }
-        Hex::NoDigit(m, k, j) => Piece::Refused(m, k, j, j + 1),
+    let v = read_hex(rest, i, n)?;
+    let end = i + n;
+    if v < FIRST_HALF {
+        return Ok(Piece::Char(v, end));
     }
+    if v <= LAST_FIRST_HALF {
+        return read_second_half(rest, v, end);
+    }
+    if v <= LAST_SECOND_HALF || LAST_SCALAR < v {
+        return Err(Broken {
+            refusal: Refusal::NoScalarValue,
+            carry: v,
+            place: end,
+            reach: end,
+        });
+    }
+    Ok(Piece::Char(v, end))
 }
 
-// What a plain escape stands for, or 0.
-fn plain_escape(c: u32) -> u32
-    ensures { spec.plain_escape c ≡ as_plain result }
+// What a plain escape stands for.
+fn plain_escape(c: u32) -> Option<u32>
+    ensures { result ≡ spec.plain_escape c }
 {
-    if Char::APOSTROPHE == c {
-        return Char::APOSTROPHE;
+    match c {
+        Char::APOSTROPHE | Char::QUOTE | Char::BACKSLASH => Some(c),
+        Char::SMALL_N => Some(Char::LINE_FEED),
+        Char::SMALL_R => Some(Char::CARRIAGE_RETURN),
+        Char::SMALL_T => Some(Char::TAB),
+        _ => None,
     }
-    if Char::QUOTE == c {
-        return Char::QUOTE;
-    }
-    if Char::BACKSLASH == c {
-        return Char::BACKSLASH;
-    }
-    if Char::SMALL_N == c {
-        return Char::LINE_FEED;
-    }
-    if Char::SMALL_R == c {
-        return Char::CARRIAGE_RETURN;
-    }
-    if Char::SMALL_T == c {
-        return Char::TAB;
-    }
-    0
 }
 
 fn is_unicode_letter(c: u32) -> bool
     ensures { result ≡ eqb 0x75 c || eqb 0x55 c }
 {
-    if Char::SMALL_U == c {
-        return true;
-    }
-    Char::CAPITAL_U == c
+    Char::SMALL_U == c || Char::CAPITAL_U == c
 }
 
 // An escape whose backslash stands at i and whose letter is c.
-fn read_escape(rest: &[u32], c: u32, i: usize) -> Piece
+fn read_escape(rest: &[u32], c: u32, i: usize) -> Result<Piece, Broken>
     requires { (length rest.now ≤ max_chars) × (i + 2 ≤ length rest.now) }
     ensures { Pieced rest.now (i + 2) (λ _. spec.read_escape c i) i result }
 {
-    let p = plain_escape(c);
-    if 0 < p {
-        return Piece::Char(p, i + 2);
+    if let Some(p) = plain_escape(c) {
+        return Ok(Piece::Char(p, i + 2));
     }
     if is_unicode_letter(c) {
-        let n = digit_count(c);
-        return read_unicode(rest, i + 2, n);
+        return read_unicode(rest, i + 2, digit_count(c));
     }
-    Piece::Char(Char::BACKSLASH, i + 1)
+    Ok(Piece::Char(Char::BACKSLASH, i + 1))
 }
 
 // The piece of a string's inside at i.
-fn read_piece(rest: &[u32], i: usize) -> Piece
+fn read_piece(rest: &[u32], i: usize) -> Result<Piece, Broken>
     requires { (length rest.now ≤ max_chars) × (i ≤ length rest.now) }
-    ensures { (r : ℕ) → r ≤ i + 1 → Pieced rest.now r (λ sofar. spec.read_piece i sofar) i result }
+    ensures { At rest.now i result }
 {
-    if rest.len() <= i {
-        return Piece::TextEnd(i);
+    let Some(c) = rest.get(i) else {
+        return Ok(Piece::TextEnd(i));
+    };
+    if Char::BACKSLASH == *c {
+        return match rest.get(i + 1) {
+            Some(letter) => read_escape(rest, *letter, i),
+            None => Ok(Piece::Char(Char::BACKSLASH, i + 1)),
+        };
     }
-    let x = rest[i];
-    if Char::BACKSLASH == x {
-        if rest.len() <= i + 1 {
-            return Piece::Char(Char::BACKSLASH, i + 1);
-        }
-        return read_escape(rest, rest[i + 1], i);
+    if Char::QUOTE == *c {
+        return Ok(Piece::Quote(i + 1));
     }
-    if Char::QUOTE == x {
-        return Piece::Quote(i + 1);
+    if VerticalSpace::has(*c) {
+        return Ok(Piece::LineEnd(i));
     }
-    if VerticalSpace::has(x) {
-        return Piece::LineEnd(i);
-    }
-    Piece::Char(x, i + 1)
+    Ok(Piece::Char(*c, i + 1))
 }
 
-// Whether the character at i stands for itself, as most do: then it is a piece that need not be read.
-fn plain_at(rest: &[u32], i: usize) -> bool
-    ensures { result ≡ true → Plain rest.now i }
+// Whether a character stands for itself, as most do.
+fn is_plain(c: u32) -> bool
+    ensures { result ≡ not (eqb 0x5C c || eqb 0x22 c || is_vertical_space c) }
 {
-    if rest.len() <= i {
-        return false;
-    }
-    let x = rest[i];
-    if Char::BACKSLASH == x {
-        return false;
-    }
-    if Char::QUOTE == x {
-        return false;
-    }
-    !VerticalSpace::has(x)
+    !(Char::BACKSLASH == c || Char::QUOTE == c || VerticalSpace::has(c))
 }
 
-// How many characters a string has and where it ends; where a line's end or the text's end broke it off; or number, carry, place and reach of a refusal.
+// The same piece, with a plain character found in few steps.
+#[inline(always)]
+fn piece_at(rest: &[u32], i: usize) -> Result<Piece, Broken>
+    requires { (length rest.now ≤ max_chars) × (i ≤ length rest.now) }
+    ensures { At rest.now i result }
+{
+    match rest.get(i) {
+        Some(c) if is_plain(*c) => Ok(Piece::Char(*c, i + 1)),
+        _ => read_piece(rest, i),
+    }
+}
+
+// How many characters a string has and where it ends; or where a line's end or the text's end broke it off.
 #[derive(Clone, Copy)]
 pub enum Literal {
     Chars(usize, usize),
     LineEnds(usize),
     TextEnds(usize),
-    Broken(u32, u32, usize, usize),
 }
 
 // The string whose inside starts at `from`, without writing it.
 // Ruled out, among others: a lone half taken for a character; the reach of an escape's end taken for the quote's.
-pub fn read_string(rest: &[u32], from: usize) -> Literal
+pub fn read_string(rest: &[u32], from: usize) -> Result<Literal, Broken>
     requires { (length rest.now ≤ max_chars) × (from ≤ length rest.now) }
     ensures { Inside rest.now from result }
 {
     let mut i = from;
-    let mut n: usize = 0;
+    let mut n = 0;
     loop {
-        if plain_at(rest, i) {
-            i += 1;
-        } else {
-            let p = read_piece(rest, i);
-            match p {
-                Piece::Char(_, j) => {
-                    i = j;
-                }
-                Piece::Quote(j) => {
-                    return Literal::Chars(n, j);
-                }
-                Piece::LineEnd(j) => {
-                    return Literal::LineEnds(j);
-                }
-                Piece::TextEnd(j) => {
-                    return Literal::TextEnds(j);
-                }
-                Piece::Refused(m, k, j, q) => {
-                    return Literal::Broken(m, k, j, q);
-                }
+        match piece_at(rest, i)? {
+            Piece::Char(_, end) => {
+                i = end;
+                n += 1;
             }
+            Piece::Quote(end) => return Ok(Literal::Chars(n, end)),
+            Piece::LineEnd(end) => return Ok(Literal::LineEnds(end)),
+            Piece::TextEnd(end) => return Ok(Literal::TextEnds(end)),
         }
-        n += 1;
     }
 }
 
@@ -273,32 +246,14 @@ pub fn write_string(rest: &[u32], from: usize, out: &mut [u32]) -> usize
     ensures { Written rest.now from out.old result out.new }
 {
     let mut i = from;
-    let mut n: usize = 0;
-    loop {
-        if plain_at(rest, i) {
-            out[n] = rest[i];
-            i += 1;
-        } else {
-            let p = read_piece(rest, i);
-            match p {
-                Piece::Char(c, j) => {
-                    out[n] = c;
-                    i = j;
-                }
-                Piece::Quote(_) => {
-                    return n;
-                }
-                Piece::LineEnd(_) => {
-                    return n;
-                }
-                Piece::TextEnd(_) => {
-                    return n;
-                }
-                Piece::Refused(_, _, _, _) => {
-                    return n;
-                }
-            }
-        }
+    let mut n = 0;
+    while let Ok(piece) = piece_at(rest, i) {
+        let Piece::Char(c, end) = piece else {
+            return n;
+        };
+        out[n] = c;
+        i = end;
         n += 1;
     }
+    n
 }

@@ -39,11 +39,13 @@ use Rattle.words.specs.Keywords.{value_of, Matched, Says}
 use Rattle.lexer.specs.FlagsOf.{flags_of}
 use Rattle.lexer.specs.Taken.{Gives, Takes, Taken}
 use Rattle.lexer.specs.declared.number.Number.{Number}
+use Rattle.text.specs.Refusals.{number_of}
 use Rattle.lexer.specs.declared.string.Literal.{Literal}
-use Rattle.lexer.specs.declared.string.Literal.TheVariants.{Chars as StringChars, LineEnds, TextEnds, Broken}
+use Rattle.lexer.specs.declared.string.Literal.TheVariants.{Chars as StringChars, LineEnds, TextEnds}
+use Rattle.lexer.specs.declared.string.Broken.{Broken}
 use Rattle.words.specs.declared.keywords.Match.{Match}
 use Rattle.words.specs.declared.keywords.Found.{Found}
-use Rattle.std.specs.Prelude.{None, Some}
+use Rattle.std.specs.Prelude.{None, Some, Result, Ok, Err}
 use Rattle.lexer.specs.declared.flags.Flags.{Flags as CodeFlags}
 use Rattle.lexer.specs.declared.token.Outcome.{Outcome}
 use Rattle.lexer.specs.declared.token.Read.{Read as Answer}
@@ -96,27 +98,31 @@ module _ {t : List ℕ} {i : ℕ} {n : Number} (d : Numbered t i n) where
       }
 
 -- Strings.
-module _ {t : List ℕ} {i : ℕ} {x : Literal} (s : Inside t i x) (f : CodeFlags) (q to : ℕ) where
+module _ (t : List ℕ) (i : ℕ) (f : CodeFlags) (q to : ℕ) where
   abbrev Stringed : List ℕ → Answer → ℕ → List ℕ → Type 0
   Stringed o a e o' = Takes t q (with_flags (flags_of f) (read_string fuel [] i)) o (record { read = a; used = e; flags = f; reach = to }) o'
 
-  string_sees : (y : Literal) → x ≡ y → to ≡ max q (text_reach y) → Goes t q (with_flags (flags_of f) (read_string fuel [] i)) (outcome (text_of s.cells y) (text_end y) (flags_of f)) to
-  string_sees y p e = finds (takes (subst (λ z. Goes {A = Read × ℕ} t 0 (read_string fuel [] i) (text_of s.cells z, text_end z) (text_reach z)) p s.sees) _ (begins t q (with_flags (flags_of f) (read_string fuel [] i))) to (sym e))
+  string_sees : {y : Result Literal Broken} (s : Inside t i y) → to ≡ max q (text_reach y) → Goes t q (with_flags (flags_of f) (read_string fuel [] i)) (outcome (text_of s.cells y) (text_end y) (flags_of f)) to
+  string_sees s e = finds (takes s.sees _ (begins t q (with_flags (flags_of f) (read_string fuel [] i))) to (sym e))
 
-  pub string_chars : {n e k : ℕ} {o o' : List ℕ} → x ≡ StringChars n e → Written t i o k o' → to ≡ max q (e + 1) → Stringed o (Chars TokenType.String k) e o'
-  string_chars {n} {e} p w r =
-      let g = string_sees (StringChars n e) p r in
-      let v = w.wrote s.cells e (e + 1) (subst (λ z. Goes {A = Read × ℕ} t 0 (read_string fuel [] i) (text_of s.cells z, text_end z) (text_reach z)) p s.sees) in
-      record { read = token TokenType.String (chars s.cells); sees = g; shown = ap (Chars TokenType.String) v.size; left = v.left }
+  pub string_broken : {b : Broken} {n : ℕ} {o : List ℕ} → Inside t i (Err b) → n ≡ number_of b.refusal → to ≡ max q b.reach → Stringed o (Refused n b.carry) b.place o
+  string_broken {b} s m r = record { read = refused (number_of b.refusal) b.carry; sees = string_sees s r; shown = ap (λ k. Refused k b.carry) m; left = refl }
 
-  pub string_broken : {n c e far : ℕ} {o : List ℕ} → x ≡ Broken n c e far → to ≡ max q far → Stringed o (Refused n c) e o
-  string_broken {n} {c} {e} {far} p r = record { read = refused n c; sees = string_sees (Broken n c e far) p r; shown = refl; left = refl }
+  module _ {x : Literal} (s : Inside t i (Ok x)) where
+    is_at : {y : Literal} → x ≡ y → Inside t i (Ok y)
+    is_at p = subst (λ z. Inside t i (Ok z)) p s
 
-  pub string_line : {e : ℕ} {o : List ℕ} {r : Outcome} → x ≡ LineEnds e → to ≡ max q (e + 2) → ((u : List ℕ) → Gives (outcome (token TokenType.YyUndef nothing) e (flags_of f)) to u r u) → Takes t q (with_flags (flags_of f) (read_string fuel [] i)) o r o
-  string_line {e} {o} p r w = takes_given (string_sees (LineEnds e) p r) (w o)
+    pub string_chars : {n e k : ℕ} {o o' : List ℕ} → x ≡ StringChars n e → Written t i o k o' → to ≡ max q (e + 1) → Stringed o (Chars TokenType.String k) e o'
+    string_chars {n} {e} p w r =
+        let y = is_at p in
+        let v = w.wrote y.cells e (e + 1) y.sees in
+        record { read = token TokenType.String (chars y.cells); sees = string_sees y r; shown = ap (Chars TokenType.String) v.size; left = v.left }
 
-  pub string_text : {e : ℕ} {o : List ℕ} {r : Outcome} → x ≡ TextEnds e → to ≡ max q (e + 2) → ((u : List ℕ) → Gives (outcome (token TokenType.YyEof nothing) e (flags_of f)) to u r u) → Takes t q (with_flags (flags_of f) (read_string fuel [] i)) o r o
-  string_text {e} {o} p r w = takes_given (string_sees (TextEnds e) p r) (w o)
+    pub string_line : {e : ℕ} {o : List ℕ} {r : Outcome} → x ≡ LineEnds e → to ≡ max q (e + 2) → ((u : List ℕ) → Gives (outcome (token TokenType.YyUndef nothing) e (flags_of f)) to u r u) → Takes t q (with_flags (flags_of f) (read_string fuel [] i)) o r o
+    string_line {e} {o} p r w = takes_given (string_sees (is_at p) r) (w o)
+
+    pub string_text : {e : ℕ} {o : List ℕ} {r : Outcome} → x ≡ TextEnds e → to ≡ max q (e + 2) → ((u : List ℕ) → Gives (outcome (token TokenType.YyEof nothing) e (flags_of f)) to u r u) → Takes t q (with_flags (flags_of f) (read_string fuel [] i)) o r o
+    string_text {e} {o} p r w = takes_given (string_sees (is_at p) r) (w o)
 
 -- The character c at i, as the window shows it.
 module _ (t : List ℕ) (i : ℕ) {c : ℕ} (e : c ≡ shown (cell_at t i)) where
@@ -148,10 +154,6 @@ module _ (t : List ℕ) (i : ℕ) {c : ℕ} (e : c ≡ shown (cell_at t i)) wher
   pub name_there : is_name_start c ≡ true → holds is_name_part (cell_at t i) ≡ true
   unfolding is_name_part is_name_start is_digit among
   name_there h = shown-holds is_name_part (cell_at t i) refl (rw e at (name_start-part c h))
-
--- A literal ends in the text.
-pub literal-end : {t : List ℕ} {i : ℕ} {x : Literal} → Inside t i x → (y : Literal) → x ≡ y → text_end y ≤ length t
-literal-end {t} s y p = subst (λ z. text_end z ≤ length t) p s.within
 
 -- What follows the words, and what follows the symbols.
 module _ (f : Flags) (is_name : List ℕ → Bool) (t : List ℕ) (i : ℕ) {c : ℕ} (first : c ≡ shown (cell_at t i)) where

@@ -78,8 +78,18 @@ fn string_at(rest: &[u32], i: usize, q: usize, flags: Flags, out: &mut [u32]) ->
     requires { (length rest.now ≤ max_chars) × (i + 1 ≤ length rest.now) × (length rest.now ≤ length out.old) }
     ensures { Takes rest.now q (with_flags (flags_of flags) (read_string fuel [] (i + 1))) out.old result out.new }
 {
-    let l = lexer::string::read_string(rest, i + 1);
-    match l {
+    let literal = match lexer::string::read_string(rest, i + 1) {
+        Ok(literal) => literal,
+        Err(broken) => {
+            return Outcome {
+                read: Read::Refused(u32::from(broken.refusal), broken.carry),
+                used: broken.place,
+                flags,
+                reach: q.max(broken.reach),
+            };
+        }
+    };
+    match literal {
         Literal::Chars(_, end) => {
             let n = lexer::string::write_string(rest, i + 1, out);
             Outcome {
@@ -91,12 +101,6 @@ fn string_at(rest: &[u32], i: usize, q: usize, flags: Flags, out: &mut [u32]) ->
         }
         Literal::LineEnds(end) => { plain(TokenType::YY_UNDEF, end, flags, q.max(end + 2)) }
         Literal::TextEnds(end) => { plain(TokenType::YY_EOF, end, flags, q.max(end + 2)) }
-        Literal::Broken(n, carry, end, far) => Outcome {
-            read: Read::Refused(n, carry),
-            used: end,
-            flags,
-            reach: q.max(far),
-        },
     }
 }
 

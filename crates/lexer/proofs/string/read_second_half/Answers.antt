@@ -1,22 +1,31 @@
 -- Each return is one way through the definition's second half, followed look by look.
-use Rattle.lexer.proofs.StringLaws.{bad_within, second_short, second_bad, second_low_lem, second_high_lem, second_one}
-use native.Mathlib.Omega.{arith}
+use Rattle.std.proofs.Common.{rules, ◌≡◌, ◌+◌, ◌<◌, ◌≤◌, length, get_or, arith}
+use Rattle.std.proofs.lemmas.Result.{err_from_is_err_and}
+use Rattle.lexer.proofs.StringLaws.{second_short, second_bad, second_low_lem, second_high_lem, second_one}
+use Rattle.lexer.proofs.string.read_second_half.Goals.{then-l-lt-SECOND_HALF-via-then-l-lt-SECOND_HALF, then-l-lt-SECOND_HALF-via-else-l-lt-SECOND_HALF+then-l-gt-LAST_SECOND_HALF}
 use Rattle.lexer.proofs.string.read_second_half.Goals as goal
 
-pub returns-then-rest-i : goal.returns-then-rest-i
-returns-then-rest-i c = second_short _ _ _ c.if-rest-i.true (omega arith)
+pub returns-in_default : goal.returns-in_default
+returns-in_default c = let l : length c.args.rest.now ≤ c.args.i + 1 = search rules in second_short _ _ _ l (omega arith)
+
+pub returns-in_err-l : goal.returns-in_err-l
+returns-in_err-l c =
+    let l : c.args.i + 1 < length c.args.rest.now = search rules in
+    let e : c.in-Some.letter.now ≡ get_or c.args.rest.now (c.args.i + 1) 0 = search rules in
+    let p = err_from_is_err_and c.from_residual.result c.from_residual.ensures.1 in
+    rw (p.1, p.2) (second_bad _ _ _ l e c.digit_count-n.ensures.0 c.in_err-l.ensures)
 
 pub returns-then-l-lt-SECOND_HALF : goal.returns-then-l-lt-SECOND_HALF
-returns-then-l-lt-SECOND_HALF c = second_low_lem _ _ _ (omega arith) c.digit_count-n.ensures.0 c.read_hex-r.ensures c.in-Value.is c.if-l-lt-SECOND_HALF.true
+returns-then-l-lt-SECOND_HALF c =
+    let l : c.args.i + 1 < length c.args.rest.now = search rules in
+    let e : c.in-Some.letter.now ≡ get_or c.args.rest.now (c.args.i + 1) 0 = search rules in
+    elim c.then-l-lt-SECOND_HALF.branch [
+      | then-l-lt-SECOND_HALF-via-then-l-lt-SECOND_HALF w ↦ second_low_lem _ _ _ l e c.digit_count-n.ensures.0 c.in_ok-l.ensures w.if-l-lt-SECOND_HALF.true
+      | then-l-lt-SECOND_HALF-via-else-l-lt-SECOND_HALF+then-l-gt-LAST_SECOND_HALF w ↦ second_high_lem _ _ _ l e c.digit_count-n.ensures.0 c.in_ok-l.ensures w.if-l-lt-SECOND_HALF.false w.if-l-gt-LAST_SECOND_HALF.true
+    ]
 
-pub returns-then-l-gt-LAST_SECOND_HALF : goal.returns-then-l-gt-LAST_SECOND_HALF
-returns-then-l-gt-LAST_SECOND_HALF c = second_high_lem _ _ _ (omega arith) c.digit_count-n.ensures.0 c.read_hex-r.ensures c.in-Value.is (omega arith) c.if-l-gt-LAST_SECOND_HALF.true
-
-pub overflow_add-result-in-NoDigit : goal.overflow_add-result-in-NoDigit
-overflow_add-result-in-NoDigit c = omega (arith, bad_within c.read_hex-r.ensures c.in-NoDigit.is)
-
-pub returns-else-l-gt-LAST_SECOND_HALF : goal.returns-else-l-gt-LAST_SECOND_HALF
-returns-else-l-gt-LAST_SECOND_HALF c = rw c.paired.ensures (second_one _ _ _ (omega arith) c.digit_count-n.ensures.0 c.read_hex-r.ensures c.in-Value.is (omega arith) (omega arith))
-
-pub returns-in-NoDigit : goal.returns-in-NoDigit
-returns-in-NoDigit c = second_bad _ _ _ (omega arith) c.digit_count-n.ensures.0 c.read_hex-r.ensures c.in-NoDigit.is
+pub returns : goal.returns
+returns c =
+    let l : c.args.i + 1 < length c.args.rest.now = search rules in
+    let e : c.in-Some.letter.now ≡ get_or c.args.rest.now (c.args.i + 1) 0 = search rules in
+    rw c.paired.ensures (second_one _ _ _ l e c.digit_count-n.ensures.0 c.in_ok-l.ensures c.if-l-lt-SECOND_HALF.false c.if-l-gt-LAST_SECOND_HALF.false)

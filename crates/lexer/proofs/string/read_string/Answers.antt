@@ -1,48 +1,28 @@
 -- The loop has read the pieces before i, and counted them.
-use Rattle.lexer.proofs.StringLaws.{walking_none, walking_more, walking_on, walking_ended, walking_undef, walking_over, walking_refused}
-use Prim.Native.Nat.{◌<◌, ◌≤◌}
-use mathlib.Core.Path.{refl}
-use lib.ListN.{length}
-use native.Mathlib.Omega.{arith}
+use Rattle.std.proofs.Common.{arith}
+use Rattle.std.proofs.lemmas.Result.{err_from_is_err_and}
+use Rattle.lexer.proofs.StringLaws.{at_ok, walking_none, walking_more, walking_on, walking_ended, walking_undef, walking_over, walking_refused}
 use Rattle.lexer.proofs.string.read_string.Goals as goal
-use Rattle.lexer.proofs.string.read_string.Goals.{then-plain_at, else-plain_at+in-Char}
 
-pub loop-i-init : goal.loop-i-init
-loop-i-init c = walking_none _ _ (omega arith) (omega arith)
+pub loop-end-init : goal.loop-end-init
+loop-end-init c = walking_none _ _ (omega arith) (omega arith)
 
-pub overflow_add-i : goal.overflow_add-i
-overflow_add-i c = let k = c.loop-i.invariant in let p = (c.plain_at.ensures c.if-plain_at.true).there in omega arith
+pub returns-in_err-end : goal.returns-in_err-end
+returns-in_err-end c =
+    let p = err_from_is_err_and c.from_residual.result c.from_residual.ensures.1 in
+    rw (p.1, p.2) (walking_refused c.loop-end.invariant c.in_err-end.ensures)
 
 pub returns-in-Quote : goal.returns-in-Quote
-returns-in-Quote c = walking_ended c.loop-i.invariant c.read_piece-p.ensures c.in-Quote.is
+returns-in-Quote c = walking_ended c.loop-end.invariant (at_ok _ _ c.in_ok-end.ensures c.in-Quote.is)
 
 pub returns-in-LineEnd : goal.returns-in-LineEnd
-returns-in-LineEnd c = walking_undef c.loop-i.invariant c.read_piece-p.ensures c.in-LineEnd.is
+returns-in-LineEnd c = walking_undef c.loop-end.invariant (at_ok _ _ c.in_ok-end.ensures c.in-LineEnd.is)
 
 pub returns-in-TextEnd : goal.returns-in-TextEnd
-returns-in-TextEnd c = walking_over c.loop-i.invariant c.read_piece-p.ensures c.in-TextEnd.is
+returns-in-TextEnd c = walking_over c.loop-end.invariant (at_ok _ _ c.in_ok-end.ensures c.in-TextEnd.is)
 
-pub returns-in-Refused : goal.returns-in-Refused
-returns-in-Refused c = walking_refused c.loop-i.invariant c.read_piece-p.ensures c.in-Refused.is
+pub loop-end-smaller : goal.loop-end-smaller
+loop-end-smaller c = let l = walking_on c.loop-end.invariant (at_ok _ _ c.in_ok-end.ensures c.in-Char.is) in omega arith
 
-pub overflow_add-n : goal.overflow_add-n
-overflow_add-n c = let k = c.loop-i.invariant in omega (arith, k.size)
-
-pub loop-i-smaller : goal.loop-i-smaller
-loop-i-smaller c =
-    let k = c.loop-i.invariant in
-    let l : (c.loop-i.i < c.if-plain_at.i) × (c.if-plain_at.i ≤ length c.args.rest.now) =
-    elim c.if-plain_at.branch [
-      | then-plain_at w ↦ rw w.i-is (walking_on k (c.plain_at.ensures w.if-plain_at.true).piece refl)
-      | else-plain_at+in-Char w ↦ rw w.i-is (walking_on k w.read_piece-p.ensures w.in-Char.is)
-    ]
-    in
-    omega arith
-
-pub loop-i-preserved : goal.loop-i-preserved
-loop-i-preserved c =
-    let k = c.loop-i.invariant in
-    elim c.if-plain_at.branch [
-      | then-plain_at w ↦ rw w.i-is (walking_more k (c.plain_at.ensures w.if-plain_at.true).piece refl)
-      | else-plain_at+in-Char w ↦ rw w.i-is (walking_more k w.read_piece-p.ensures w.in-Char.is)
-    ]
+pub loop-end-preserved : goal.loop-end-preserved
+loop-end-preserved c = walking_more c.loop-end.invariant (at_ok _ _ c.in_ok-end.ensures c.in-Char.is)
