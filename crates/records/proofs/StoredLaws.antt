@@ -4,13 +4,11 @@ use mathlib.Core.Bool.{Bool, true, false}
 use mathlib.Core.List.{List, [], ◌∷◌, map}
 use Prim.Native.Nat.{ℕ, ◌+◌}
 use lib.Dec.{eqb}
-use mir.Val.{bool_byte}
 use lib.ListN.{length, get_or}
 use Rattle.lexer.specs.Flags as spec
 use Rattle.lexer.specs.FlagsOf.{flags_of}
-use Rattle.lexer.specs.declared.flags.Flags.{Flags}
 use Rattle.runs.specs.Item.{Item, bit}
-use Rattle.runs.specs.Record.{flag_bits, bit_flags, refused_at, number_at, position_at, flags_at, reach_at, start_at, length_at, before_at, after_at, exponent_at, extra_at, row_of, rows_from}
+use Rattle.runs.specs.Record.{flag_bits, bit_flags, number_at, position_at, reach_at, start_at, length_at, before_at, after_at, exponent_at, extra_at, row_of, rows_from}
 use Rattle.runs.proofs.RecordLaws.{bits_back}
 use Rattle.records.specs.declared.stored.Stored.{Stored}
 use Rattle.records.specs.Stored.{flags_from, stored_of, row_from}

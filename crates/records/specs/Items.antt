@@ -1,5 +1,5 @@
 -- What is copied from one lent slice to another, as items are from rows and rows from items: all, or nothing.
-use Rattle.std.specs.Prelude.{◌≡◌, cond, List, [], ◌∷◌, map, ℕ, ltb, length, replicate, Result, Ok, Err}
+use Rattle.std.specs.Prelude.{◌≡◌, cond, List, map, ℕ, ltb, length, replicate, Result, Ok, Err}
 use Rattle.reading.specs.Slices.{front}
 use Rattle.text.specs.Refusals.{short_slice}
 use Rattle.text.specs.declared.refusal.Refusal.{Refusal}

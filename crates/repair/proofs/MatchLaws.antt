@@ -4,11 +4,10 @@ use mathlib.Core.Bool.{Bool, true, false, ◌&&◌, beq, false≢true}
 use mathlib.Core.List.{List, []}
 use Prim.Native.Nat.{ℕ, ◌+◌, ◌-◌, ◌≤◌, ◌<◌, max}
 use native.Mathlib.Omega.{arith}
-use lib.Dec.{leb, ltb, eqb}
+use lib.Dec.{leb, eqb}
 use lib.ListN.{length, get_or}
-use borrow.Author.Tests.{leb-true, ltb-true, ltb-false, eqb-true, eq-eqb}
+use borrow.Author.Tests.{leb-true, eqb-true, eq-eqb}
 use Rattle.reading.proofs.Test.{both, by_order}
-use Rattle.text.specs.Limits.{max_chars}
 use Rattle.lexer.specs.Flags.{Flags}
 use Rattle.runs.specs.Edit.{Edit, moved}
 use Rattle.runs.specs.Repair.{same_flags}

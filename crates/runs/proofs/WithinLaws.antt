@@ -1,7 +1,6 @@
 -- A record stands at the fronts of the slices that were lent for it.
 use Rattle.std.specs.Prelude.{Ok}
-use Rattle.std.proofs.Common.{◌≡◌, ℕ, ◌≤◌, List, length, length-append, ap, arith}
-use Rattle.text.specs.declared.refusal.Refusal.{Refusal}
+use Rattle.std.proofs.Common.{◌≡◌, ℕ, ◌≤◌, List, length, length-append, arith}
 use Rattle.runs.specs.declared.call.Counts.{Counts}
 use Rattle.runs.specs.Calls.{Room, Answer, made, refused, room_after}
 use Rattle.runs.specs.Ran.{numbered, answer_of}

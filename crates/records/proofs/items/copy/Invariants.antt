@@ -1,7 +1,5 @@
 -- So far what is made of the first i values fills the front.
 use mathlib.Core.Path.{◌≡◌}
-use Prim.Native.Nat.{◌≤◌}
-use lib.ListN.{length}
 use Rattle.records.proofs.Filling.{filled}
 use Rattle.records.proofs.items.copy.Given as goal
 

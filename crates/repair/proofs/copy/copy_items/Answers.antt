@@ -2,7 +2,7 @@
 use Rattle.std.proofs.Common.{rules, ◌∙◌}
 use native.Mathlib.Omega.{arith}
 use Rattle.runs.specs.Copied.{edit_of}
-use Rattle.runs.proofs.BehindLaws.{copying_room, copying_space, copying_more, copying_all}
+use Rattle.runs.proofs.BehindLaws.{copying_room, copying_space, copying_more}
 use Rattle.repair.proofs.copy.copy_items.Goals as goal
 
 pub copy_item-at-requires : goal.copy_item-at-requires

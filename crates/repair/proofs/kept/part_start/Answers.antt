@@ -1,5 +1,5 @@
 -- The last kept row, if there is one.
-use Rattle.std.proofs.Common.{◌≡◌, ◌<◌, length, arith, get_or, take, []}
+use Rattle.std.proofs.Common.{arith}
 use Rattle.std.proofs.lemmas.Grind.{common_steps}
 use Rattle.repair.proofs.KeptLaws.{kept_rows, part-at-start, part-at-row}
 use Rattle.repair.proofs.kept.part_start.Goals as goal

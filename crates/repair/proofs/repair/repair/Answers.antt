@@ -3,10 +3,9 @@ use mathlib.Core.Path.{sym, ap, ◌∙◌}
 use native.Mathlib.Omega.{arith}
 use Rattle.std.proofs.lemmas.Result.{err_from_is_err_and}
 use Rattle.scope.specs.Lent.{scope_of}
-use Rattle.runs.proofs.RunCallLaws.{clear-zeros}
 use Rattle.repair.specs.Asking.{request_of}
-use Rattle.repair.proofs.RepairCodeLaws.{facts, new-length_small}
-use Rattle.repair.proofs.RepairCallLaws.{repair_broken, repair_refused, repair_askable, repair_made}
+use Rattle.repair.proofs.RepairCodeLaws.{new-length_small}
+use Rattle.repair.proofs.RepairCallLaws.{repair_refused, repair_made}
 use Rattle.repair.proofs.repair.repair.Goals as goal
 
 pub returns-in_err-sound-clause-repaired : goal.returns-in_err-sound-clause-repaired
