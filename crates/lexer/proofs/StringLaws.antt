@@ -169,23 +169,26 @@ module _ (t : List ℕ) (i n : ℕ) (some : 0 < n) where
   point_bad g = stopped _ g.from g.within (finds (pointed g))
 
   module _ {v : ℕ} (g : Hexed t i n (Ok v)) where
+    in_text_lem : i + n ≤ length t
+    in_text_lem = g.within
+
     pub point_low : v < 0xD800 → Point (Ok (Char v (i + n)))
-    point_low a = read_one v (i + n) (i + n) (omega arith) g.within (omega arith)
+    point_low a = read_one v (i + n) (i + n) (omega arith) in_text_lem (omega arith)
         (finds (rw (lt-leb 0xD800 v a, lt-leb 0xDC00 v (omega arith), le-ltb 0x10FFFF v (omega arith)) at (pointed g)))
 
     pub point_second : 0xD800 ≤ v → v ≤ 0xDBFF → {p : Answer} → Pieced t (i + n) (λ _. spec.read_second_half v (i + n)) (i + n) p → Point p
     point_second a b k = onward i (i + n) (λ _. rw (le-leb 0xD800 v a, le-leb v 0xDBFF b) at (pointed g)) k (omega arith)
 
     pub point_half : 0xDBFF < v → v ≤ 0xDFFF → Point (Err (broken NoScalarValue v (i + n) (i + n)))
-    point_half a b = stopped _ (omega arith) g.within
+    point_half a b = stopped _ (omega arith) in_text_lem
         (finds (rw (le-leb 0xD800 v (omega arith), lt-leb v 0xDBFF a, le-leb 0xDC00 v (omega arith), le-leb v 0xDFFF b) at (pointed g)))
 
     pub point_high : 0xDFFF < v → 0x10FFFF < v → Point (Err (broken NoScalarValue v (i + n) (i + n)))
-    point_high a b = stopped _ (omega arith) g.within
+    point_high a b = stopped _ (omega arith) in_text_lem
         (finds (rw (le-leb 0xD800 v (omega arith), lt-leb v 0xDBFF (omega arith), le-leb 0xDC00 v (omega arith), lt-leb v 0xDFFF a, lt-ltb 0x10FFFF v b) at (pointed g)))
 
     pub point-one : 0xDFFF < v → v ≤ 0x10FFFF → Point (Ok (Char v (i + n)))
-    point-one a b = read_one v (i + n) (i + n) (omega arith) g.within (omega arith)
+    point-one a b = read_one v (i + n) (i + n) (omega arith) in_text_lem (omega arith)
         (finds (rw (le-leb 0xD800 v (omega arith), lt-leb v 0xDBFF (omega arith), le-leb 0xDC00 v (omega arith), lt-leb v 0xDFFF a, le-ltb 0x10FFFF v b) at (pointed g)))
 
 module _ (t : List ℕ) (c i : ℕ) (room : i + 2 ≤ length t) where

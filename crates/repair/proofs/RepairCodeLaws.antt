@@ -8,7 +8,7 @@ use native.Mathlib.Numerals.{add-one}
 use lib.Dec.{ltb, eqb}
 use lib.ListN.{length, get_or, take, drop, length-append, length-take, length-drop, length-map}
 use lib.Seq.{length-take-le, take_all, take-length, get_or-take, get_or-drop, drop-length}
-use borrow.Author.Tests.{ltb-false, eqb-true, not-false}
+use borrow.Author.Tests.{lt-ltb, le-ltb, ltb-false, eqb-true, not-false}
 use Rattle.reading.proofs.Test.{by_test, by_order}
 use Rattle.text.specs.Limits.{max_chars}
 use Rattle.lexer.specs.Flags.{Flags}
@@ -34,6 +34,10 @@ pub record Facts (q : Request) : Type 0 where
   pub limit : q.old_length ≤ max_chars
   pub fits : record_fits q.old_length q.old ≡ true
   pub ends : part_start q + length q.part ≡ new_length q
+
+-- An edit in order and in its text is refused for the text's length.
+pub too_long_lem : (q : Request) → q.edit.from ≤ q.edit.to → q.edit.to ≤ q.old_length → max_chars < q.old_length → true ≡ is_broken_request q
+too_long_lem q a b h = rw (le-ltb q.edit.to q.edit.from a, le-ltb q.old_length q.edit.to b, lt-ltb _ _ h)
 
 or_false : (b c : Bool) → b || c ≡ false → (b ≡ false) × (c ≡ false)
 or_false true c h = absurd (false≢true (sym h))

@@ -4,7 +4,7 @@ use mathlib.Core.Bool.{Bool, true, false, cond, ◌&&◌}
 use Prim.Native.Nat.{ℕ, ◌+◌, ◌*◌, ◌≤◌, ◌<◌}
 use native.Mathlib.Omega.{arith}
 use lib.Dec.{leb, ltb}
-use borrow.Author.Tests.{le-ltb, ltb-false, le-leb, leb-true}
+use borrow.Author.Tests.{lt-ltb, le-ltb, ltb-false, le-leb, leb-true}
 use lib.ListN.{length}
 use Rattle.reading.proofs.Test.{both}
 use Rattle.text.specs.Limits.{max_chars}
@@ -48,6 +48,10 @@ module _ (l : Lent) (n rows store scratch : ℕ) (e : 0 ≡ refusal l n rows sto
       let u = both (leb (n + 2) rows && leb n store) (leb (2 * n) scratch) t.2 in
       let v = both (leb (n + 2) rows) (leb n store) u.0 in
       record { within = ltb-false max_chars n t.0; whole = t.1; rows_long = leb-true (n + 2) rows v.0; store_long = leb-true n store v.1; scratch_long = leb-true (2 * n) scratch u.1 }
+
+-- The text's length is asked for first.
+pub too_long_lem : (l : Lent) (n rows store scratch : ℕ) → max_chars < n → too_long ≡ refusal l n rows store scratch
+too_long_lem l n rows store scratch h = rw (lt-ltb max_chars n h)
 
 module _ (l : Lent) (room : Room) (n : ℕ) (r : Record) where
   pub checked_refused : {m : ℕ} → m ≡ refusal l n (length room.rows) (length room.store) (length room.scratch) → 0 < m → checked l room n r ≡ refused m

@@ -33,6 +33,11 @@ unfolding decoded_from
 decoded_bad [] p h e = absurd (omega arith)
 decoded_bad (b ∷ bs) p h e = rw (← e)
 
+-- A count that is the place of a bad sequence is that of bytes that are not well-formed.
+bad_at_lem : (d : Decoded) (p : ℕ) → Err p ≡ count_of d → d ≡ bad_at p
+bad_at_lem (chars cs) p e = cc
+bad_at_lem (bad_at q) p e = cc
+
 decoded_end : (bs : List ℕ) (p : ℕ) → length bs ≤ 0 → decoded_from 0 p bs ≡ chars []
 unfolding decoded_from
 decoded_end [] p h = refl
@@ -42,9 +47,9 @@ with_snoc : (cs : List ℕ) (c : ℕ) (d : Decoded) → with_chars cs (with_char
 with_snoc [] c d = refl
 with_snoc (x ∷ cs) c d = ap (with_char x) (with_snoc cs c d)
 
-with_all : (cs ds : List ℕ) → with_chars cs (chars ds) ≡ chars (cs ++ ds)
-with_all [] ds = refl
-with_all (x ∷ cs) ds = ap (with_char x) (with_all cs ds)
+with_chars_lem : (cs ds : List ℕ) → with_chars cs (chars ds) ≡ chars (cs ++ ds)
+with_chars_lem [] ds = refl
+with_chars_lem (x ∷ cs) ds = ap (with_char x) (with_chars_lem cs ds)
 
 with_bad : (cs : List ℕ) (p : ℕ) → with_chars cs (bad_at p) ≡ bad_at p
 with_bad [] p = refl
@@ -84,7 +89,7 @@ module _ {t rest : List ℕ} {n : ℕ} (g : Going t rest n) where
   going_bad h e = g.so ∙ ap (with_chars g.cs) (decoded_bad rest g.place h e) ∙ with_bad g.cs g.place
 
   pub going_all : length rest ≤ 0 → decoded t ≡ chars g.cs
-  going_all h = g.so ∙ ap (with_chars g.cs) (decoded_end rest g.place h) ∙ with_all g.cs [] ∙ rw append-nil
+  going_all h = g.so ∙ ap (with_chars g.cs) (decoded_end rest g.place h) ∙ with_chars_lem g.cs [] ∙ rw append-nil
 
   -- Counting.
   pub count_bad : 0 < length rest → None ≡ sequence rest → Err (length t - length rest) ≡ count_of (decoded t)
@@ -102,8 +107,8 @@ pub record Writing (t o₀ o rest : List ℕ) (n : ℕ) : Type 0 where
 -- Where there is room for all characters, and those so far take it, they are all.
 full : (cs : List ℕ) (d : Decoded) (m : ℕ) → HasRoom (with_chars cs d) m → m ≤ length cs → with_chars cs d ≡ chars cs
 full cs (bad_at p) m h l = absurd (subst (λ d. HasRoom d m) (with_bad cs p) h)
-full cs (chars []) m h l = with_all cs [] ∙ rw append-nil
-full cs (chars (d ∷ ds)) m h l = absurd (omega (arith, length-append cs (d ∷ ds), subst (λ d. HasRoom d m) (with_all cs (d ∷ ds)) h))
+full cs (chars []) m h l = with_chars_lem cs [] ∙ rw append-nil
+full cs (chars (d ∷ ds)) m h l = absurd (omega (arith, length-append cs (d ∷ ds), subst (λ d. HasRoom d m) (with_chars_lem cs (d ∷ ds)) h))
 
 pub writing_none : (t o : List ℕ) → Writing t o o t 0
 unfolding going_none
