@@ -12,7 +12,7 @@ ghost use Rattle.runs.specs.Ran.{Ran, Next, Stands};
 ghost use Rattle.runs.specs.Lending.{lent_of, room_of, SameSlices};
 
 use crate::call::Counts;
-use crate::item::{Item, Row, Value};
+use crate::item::{Item, Row};
 use crate::room::Room;
 use crate::{call, item};
 use lexer::flags::Flags;
@@ -81,7 +81,7 @@ pub fn read_item(text: &[u32], at: Progress, known: Known, room: &mut Room) -> P
         flags: next.flags,
         counts: Counts {
             items: items + 1,
-            cells: cells + Value::of(next.read).length,
+            cells: cells + row[Item::LENGTH] as usize,
         },
         ended: item::ends_run(&row),
     }

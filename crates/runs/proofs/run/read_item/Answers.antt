@@ -2,6 +2,7 @@
 use Rattle.runs.proofs.RanLaws.{found, next_is}
 use native.Mathlib.Omega.{arith}
 use mathlib.Core.Path.{refl, ap}
+use lib.ListN.{get_or}
 use Rattle.runs.proofs.run.read_item.Goals as goal
 
 pub overflow_add-next : goal.overflow_add-next
@@ -19,11 +20,6 @@ row-row-requires c =
     let g = found _ c.args.text.now c.args.at.position _ c.read_token-o.ensures.0 c.requires.0 c.requires.3 in
     (record { position = omega (arith, g.used, c.requires.0); reach = omega (arith, g.far, c.requires.0); size = omega (arith, g.cells, g.used, c.requires.0) }, omega (arith, c.requires.4))
 
-pub of-requires : goal.of-requires
-of-requires c =
-    let g = found _ c.args.text.now c.args.at.position _ c.read_token-o.ensures.0 c.requires.0 c.requires.3 in
-    omega (arith, g.cells, g.used, c.requires.0)
-
 pub returns-clause-next : goal.returns-clause-next
 returns-clause-next c =
-    next_is _ c.args.text.now c.args.at _ c.read_token-o.ensures.0 c.requires.0 c.requires.3 c.row-row.ensures refl c.ends_run.ensures (ap (λ v. v.length) c.of.ensures)
+    next_is _ c.args.text.now c.args.at _ c.read_token-o.ensures.0 c.requires.0 c.requires.3 c.row-row.ensures refl c.ends_run.ensures (ap (λ r. get_or r 6 0) c.row-row.ensures)
