@@ -167,12 +167,12 @@ fn by_prefix(
     n: usize,
     end: usize,
     flags: Flags,
-    known: Known,
+    known: &Known,
     out: &mut [u32],
     scratch: &mut [u32],
 ) -> Outcome
     requires { Counted rest.now from n end × Roomy rest.now from n (length out.old) × Searchable rest.now scratch.old }
-    ensures { Gives (by_prefix_of (flags_of flags) (is_name (sound_scope known.entry.scope)) rest.now from n end) (end + 1) out.old result out.new
+    ensures { Gives (by_prefix_of (flags_of flags) (is_name (sound_scope known.now.scope)) rest.now from n end) (end + 1) out.old result out.new
         × (scratch.new ≡ scratch.old) }
 {
     let Some(p) = prefix::longest_prefix(rest, from, n, flags, known, scratch) else {
@@ -192,12 +192,12 @@ fn by_colon(
     n: usize,
     end: usize,
     flags: Flags,
-    known: Known,
+    known: &Known,
     out: &mut [u32],
     scratch: &mut [u32],
 ) -> Outcome
     requires { Counted rest.now from n end × Roomy rest.now from n (length out.old) × Searchable rest.now scratch.old }
-    ensures { Gives (by_in_of (flags_of flags) (is_name (sound_scope known.entry.scope)) rest.now from n end None) (end + 1) out.old result out.new
+    ensures { Gives (by_in_of (flags_of flags) (is_name (sound_scope known.now.scope)) rest.now from n end None) (end + 1) out.old result out.new
         × (scratch.new ≡ scratch.old) }
 {
     if lexer::look::is_at(rest, end, Char::COLON) {
@@ -213,12 +213,12 @@ fn by_in(
     n: usize,
     end: usize,
     flags: Flags,
-    known: Known,
+    known: &Known,
     out: &mut [u32],
     scratch: &mut [u32],
 ) -> Outcome
     requires { Counted rest.now from n end × Roomy rest.now from n (length out.old) × Searchable rest.now scratch.old }
-    ensures { Gives (cut_in_of (flags_of flags) (is_name (sound_scope known.entry.scope)) rest.now from n end) (end + 1) out.old result out.new
+    ensures { Gives (cut_in_of (flags_of flags) (is_name (sound_scope known.now.scope)) rest.now from n end) (end + 1) out.old result out.new
         × (scratch.new ≡ scratch.old) }
 {
     if !flags.till_in {
@@ -242,12 +242,12 @@ pub fn read_name(
     rest: &[u32],
     i: usize,
     flags: Flags,
-    known: Known,
+    known: &Known,
     out: &mut [u32],
     scratch: &mut [u32],
 ) -> Outcome
     requires { (length rest.now ≤ max_chars) × (holds is_name_part (cell_at rest.now i) ≡ true) × (length rest.now ≤ length out.old) × Searchable rest.now scratch.old }
-    ensures { Takes rest.now 0 (spec.read_name fuel (flags_of flags) (is_name (sound_scope known.entry.scope)) i) out.old result out.new
+    ensures { Takes rest.now 0 (spec.read_name fuel (flags_of flags) (is_name (sound_scope known.now.scope)) i) out.old result out.new
         × (scratch.new ≡ scratch.old) }
 {
     let w = parts::count_parts(rest, i);

@@ -93,11 +93,11 @@ pub fn longest_prefix(
     from: usize,
     n: usize,
     flags: Flags,
-    known: Known,
+    known: &Known,
     scratch: &mut [u32],
 ) -> Option<Prefix>
     requires { (from ≤ length rest.now) × Searchable rest.now scratch.old }
-    ensures longest { Longest (flags_of flags) (is_name (sound_scope known.entry.scope)) rest.now from n (parts_of result) (property_of result) }
+    ensures longest { Longest (flags_of flags) (is_name (sound_scope known.now.scope)) rest.now from n (parts_of result) (property_of result) }
     ensures some { IfSome result (λ p. 0 < p.parts) }
     ensures clean { scratch.new ≡ scratch.old }
 {

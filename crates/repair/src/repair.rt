@@ -68,10 +68,10 @@ fn is_match(old_rows: &[Row], j: usize, e: Edit, p: usize, flags: Flags) -> bool
 }
 
 // Reads the next item of a part that begins at `base`, and writes it with its place in the whole text.
-fn read_fresh(part: &[u32], base: usize, at: Progress, known: Known, room: &mut Room) -> Progress
+fn read_fresh(part: &[u32], base: usize, at: Progress, known: &Known, room: &mut Room) -> Progress
     requires { (base + length part.now ≤ max_chars) × (at.counts.cells + (length part.now - at.position) ≤ length room.old.store.now) × (2 * length part.now ≤ length room.old.scratch.now)
         × (at.position ≤ length part.now) × (at.counts.cells ≤ max_chars) × (at.counts.items < length room.old.rows.now) × (at.counts.items ≤ max_chars + 1) × Clear room.old.scratch.now }
-    ensures fresh { Fresh (read_token (is_name (sound_scope known.entry.scope))) part.now base at room.old.rows.now room.old.store.now result room.new.rows.now room.new.store.now }
+    ensures fresh { Fresh (read_token (is_name (sound_scope known.now.scope))) part.now base at room.old.rows.now room.old.store.now result room.new.rows.now room.new.store.now }
     ensures clear { room.new.scratch.now ≡ room.old.scratch.now }
     ensures same { SameSlices room.old room.new }
 {
@@ -118,7 +118,7 @@ fn read_to_match(
                 old: j + 1,
             };
         }
-        at = read_fresh(part, base, at, known, room);
+        at = read_fresh(part, base, at, &known, room);
     }
     Matched {
         counts: at.counts,

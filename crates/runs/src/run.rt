@@ -53,10 +53,10 @@ fn put_start(start_type: u32, flags: Flags, rows: &mut [Row]) -> Progress
 
 // Reads the next item: its value goes behind the last one, its row behind the last row.
 // Ruled out, among others: a value that ends outside the store; an item that takes no character and does not end the run.
-pub fn read_item(text: &[u32], at: Progress, known: Known, room: &mut Room) -> Progress
+pub fn read_item(text: &[u32], at: Progress, known: &Known, room: &mut Room) -> Progress
     requires { (length text.now ≤ max_chars) × (at.counts.cells + (length text.now - at.position) ≤ length room.old.store.now) × (2 * length text.now ≤ length room.old.scratch.now)
         × (at.position ≤ length text.now) × (at.counts.cells ≤ max_chars) × (at.counts.items < length room.old.rows.now) × (at.counts.items ≤ max_chars + 1) × Clear room.old.scratch.now }
-    ensures next { Next (read_token (is_name (sound_scope known.entry.scope))) text.now at room.old.rows.now room.old.store.now result room.new.rows.now room.new.store.now }
+    ensures next { Next (read_token (is_name (sound_scope known.now.scope))) text.now at room.old.rows.now room.old.store.now result room.new.rows.now room.new.store.now }
     ensures clear { room.new.scratch.now ≡ room.old.scratch.now }
     ensures same { SameSlices room.old room.new }
 {
@@ -98,7 +98,7 @@ fn read_items(text: &[u32], start_type: u32, flags: Flags, scope: Sound, room: &
     let known = Known::of(scope);
     let mut at = put_start(start_type, flags, room.rows);
     while !at.ended {
-        at = read_item(text, at, known, room);
+        at = read_item(text, at, &known, room);
     }
     at.counts
 }

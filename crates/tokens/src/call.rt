@@ -107,7 +107,8 @@ fn step(l: Lexer, text: &[u32], scope: Sound, out: &mut [u32], scratch: &mut [u3
             next: Lexer { due: None, ..l },
         };
     }
-    let o = token::read_token(&text[p..], l.flags, Known::of(scope), out, scratch);
+    let known = Known::of(scope);
+    let o = token::read_token(&text[p..], l.flags, &known, out, scratch);
     let place = p + o.used;
     Called {
         read: o.read,

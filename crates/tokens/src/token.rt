@@ -120,12 +120,12 @@ fn other_cases(
     c: u32,
     q: usize,
     flags: Flags,
-    known: Known,
+    known: &Known,
     out: &mut [u32],
     scratch: &mut [u32],
 ) -> Outcome
     requires { (length rest.now ≤ max_chars) × (i ≤ length rest.now) × (c ≡ shown (cell_at rest.now i)) × (length rest.now ≤ length out.old) × Searchable rest.now scratch.old }
-    ensures { Takes rest.now q (other_cases fuel (flags_of flags) (is_name (sound_scope known.entry.scope)) (window_of 12 rest.now i) i) out.old result out.new
+    ensures { Takes rest.now q (other_cases fuel (flags_of flags) (is_name (sound_scope known.now.scope)) (window_of 12 rest.now i) i) out.old result out.new
         × (scratch.new ≡ scratch.old) }
 {
     if text::classes::is_digit(c) {
@@ -159,12 +159,12 @@ fn behind_words(
     c: u32,
     q: usize,
     flags: Flags,
-    known: Known,
+    known: &Known,
     out: &mut [u32],
     scratch: &mut [u32],
 ) -> Outcome
     requires { (length rest.now ≤ max_chars) × (i ≤ length rest.now) × (c ≡ shown (cell_at rest.now i)) × (length rest.now ≤ length out.old) × (q ≤ length rest.now + 12) × Searchable rest.now scratch.old }
-    ensures { Takes rest.now q (behind_words fuel (flags_of flags) (is_name (sound_scope known.entry.scope)) (window_of 12 rest.now i) i) out.old result out.new
+    ensures { Takes rest.now q (behind_words fuel (flags_of flags) (is_name (sound_scope known.now.scope)) (window_of 12 rest.now i) i) out.old result out.new
         × (scratch.new ≡ scratch.old) }
 {
     if begins_with_point(rest, i, c) {
@@ -185,12 +185,12 @@ fn by_window(
     rest: &[u32],
     i: usize,
     flags: Flags,
-    known: Known,
+    known: &Known,
     out: &mut [u32],
     scratch: &mut [u32],
 ) -> Outcome
     requires { (length rest.now ≤ max_chars) × (i ≤ length rest.now) × (length rest.now ≤ length out.old) × Searchable rest.now scratch.old }
-    ensures { Takes rest.now (i + 12) (cases fuel (flags_of flags) (is_name (sound_scope known.entry.scope)) (window_of 12 rest.now i) i) out.old result out.new
+    ensures { Takes rest.now (i + 12) (cases fuel (flags_of flags) (is_name (sound_scope known.now.scope)) (window_of 12 rest.now i) i) out.old result out.new
         × (scratch.new ≡ scratch.old) }
 {
     let c = window::shown_at(rest, i);
@@ -206,12 +206,12 @@ fn by_window(
 pub fn read_token(
     rest: &[u32],
     flags: Flags,
-    known: Known,
+    known: &Known,
     out: &mut [u32],
     scratch: &mut [u32],
 ) -> Outcome
     requires { (length rest.now ≤ max_chars) × (length rest.now ≤ length out.old) × (2 * length rest.now ≤ length scratch.old) × Clear scratch.old }
-    ensures { Taken rest.now (is_name (sound_scope known.entry.scope)) (flags_of flags) out.old result out.new
+    ensures { Taken rest.now (is_name (sound_scope known.now.scope)) (flags_of flags) out.old result out.new
         × (scratch.new ≡ scratch.old) }
 {
     let i = lexer::skip::skip(rest);

@@ -10,7 +10,7 @@ use Rattle.naming.proofs.name.by_prefix.Goals.{in-Property, in-Name}
 pub returns-in_default : goal.returns-in_default
 returns-in_default c =
     let l = rw c.in_default.is at c.longest_prefix.ensures.longest in
-    (gives_as (prefix_none l c.requires.0 refl) (c.all_parts.ensures (is_name (sound_scope c.args.known.scope))), c.longest_prefix.ensures.clean)
+    (gives_as (prefix_none l c.requires.0 refl) (c.all_parts.ensures (is_name (sound_scope c.args.known.now.scope))), c.longest_prefix.ensures.clean)
 
 pub cut_at-requires : goal.cut_at-requires
 cut_at-requires c =

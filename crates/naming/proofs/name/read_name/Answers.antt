@@ -16,10 +16,10 @@ pub cut_at-requires : goal.cut_at-requires
 cut_at-requires c = let l = cell_there is_name_part _ _ c.requires.1 in let n = c.count_parts-w.ensures in let z = some_part c.requires.0 c.requires.1 n in (omega arith, omega arith, omega arith, n.count, roomy c.requires.0 c.requires.1 n (omega arith))
 
 pub returns-then-next_is : goal.returns-then-next_is
-returns-then-next_is c = let x = c.args in let n = c.count_parts-w.ensures in (item_there n (flags_of x.flags) (is_name (sound_scope x.known.scope)) (some_part c.requires.0 c.requires.1 n) c.next_is.ensures c.if-next_is.true c.cut_at.ensures, refl)
+returns-then-next_is c = let x = c.args in let n = c.count_parts-w.ensures in (item_there n (flags_of x.flags) (is_name (sound_scope x.known.now.scope)) (some_part c.requires.0 c.requires.1 n) c.next_is.ensures c.if-next_is.true c.cut_at.ensures, refl)
 
 pub by_in-requires : goal.by_in-requires
 by_in-requires c = let n = c.count_parts-w.ensures in (n, roomy c.requires.0 c.requires.1 n (omega arith), c.requires.3)
 
 pub returns : goal.returns
-returns c = let x = c.args in let n = c.count_parts-w.ensures in (item_not n (flags_of x.flags) (is_name (sound_scope x.known.scope)) (some_part c.requires.0 c.requires.1 n) c.next_is.ensures c.if-next_is.false c.by_in.ensures.0, c.by_in.ensures.1)
+returns c = let x = c.args in let n = c.count_parts-w.ensures in (item_not n (flags_of x.flags) (is_name (sound_scope x.known.now.scope)) (some_part c.requires.0 c.requires.1 n) c.next_is.ensures c.if-next_is.false c.by_in.ensures.0, c.by_in.ensures.1)

@@ -4,4 +4,4 @@ use Rattle.naming.proofs.PrefixLaws.{capped, bounded}
 use Rattle.naming.proofs.prefix.longest_prefix.Goals as goal
 
 pub returns-clause-longest : goal.returns-clause-longest
-returns-clause-longest c = bounded (c.bound-m.ensures.so _ (capped c.args.known.capped (flags_of c.args.flags) c.longest_text-c.ensures)) c.longest.ensures.longest
+returns-clause-longest c = bounded (c.bound-m.ensures.so _ (capped c.args.known.now.capped (flags_of c.args.flags) c.longest_text-c.ensures)) c.longest.ensures.longest
