@@ -53,6 +53,7 @@ fn put_start(start_type: u32, flags: Flags, rows: &mut [Row]) -> Progress
 
 // Reads the next item: its value goes behind the last one, its row behind the last row.
 // Ruled out, among others: a value that ends outside the store; an item that takes no character and does not end the run.
+#[inline(always)]
 pub fn read_item(text: &[u32], at: Progress, known: &Known, room: &mut Room) -> Progress
     requires { (length text.now ≤ max_chars) × (at.counts.cells + (length text.now - at.position) ≤ length room.old.store.now) × (2 * length text.now ≤ length room.old.scratch.now)
         × (at.position ≤ length text.now) × (at.counts.cells ≤ max_chars) × (at.counts.items < length room.old.rows.now) × (at.counts.items ≤ max_chars + 1) × Clear room.old.scratch.now }
