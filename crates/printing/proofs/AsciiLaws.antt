@@ -1,5 +1,5 @@
 -- All that is printed is ASCII: digits, the letters of its words, and a number's own digits.
-use mathlib.Core.Path.{◌≡◌, refl, ◌∙◌}
+use mathlib.Core.Path.{◌≡◌, refl}
 use mathlib.Core.Bool.{Bool, true, false, cond, false≢true}
 use mathlib.Core.List.{List, [], ◌∷◌, ◌++◌}
 use Prim.Native.String.{String}
@@ -8,11 +8,9 @@ use native.Mathlib.Nat.{mod-lt, not-suc-le-zero}
 use native.Mathlib.Omega.{arith}
 use lib.Dec.{ltb, leb, eqb}
 use borrow.Author.Tests.{ltb-true, lt-ltb, leb-true}
-use lib.ListN.{length, get_or, take, drop, get_or-append}
-use lib.Seq.{take-append_seam}
+use lib.ListN.{length, get_or, take, drop}
 use Rattle.reading.specs.Cells.{is_one_of}
 use Rattle.reading.specs.Codes.{codes}
-use Rattle.reading.specs.Slices.{front, Wrote}
 use Rattle.reading.proofs.Test.{by_test, both, either, below, all_of}
 use Rattle.text.specs.Limits.{max_chars}
 use Rattle.text.specs.Refusals.{too_long}

@@ -1,9 +1,8 @@
 -- The digits of a number, written from the last to the first.
-use mathlib.Core.Path.{◌≡◌, refl, ap, ◌∙◌, subst}
+use mathlib.Core.Path.{◌≡◌, refl, ap, ◌∙◌}
 use mathlib.Core.Bool.{true, false, cond}
 use mathlib.Core.List.{List, [], ◌∷◌}
 use Prim.Native.Nat.{ℕ, zero, suc, ◌-◌, ◌/◌, ◌%◌, ◌≤◌, ◌<◌}
-use native.Mathlib.Nat.{mod-lt}
 use native.Mathlib.Omega.{arith}
 use lib.Dec.{ltb}
 use lib.ListN.{length, take, drop, set, length-set, length-drop, drop_of_length-le}
@@ -14,9 +13,6 @@ set-drop : (l : List ℕ) (j x : ℕ) → j < length l → drop j (set l j x) �
 set-drop [] j x h = absurd (omega arith)
 set-drop (y ∷ l) zero x h = refl
 set-drop (y ∷ l) (suc j) x h = set-drop l j x (omega arith)
-
-pub rem_small : (m base : ℕ) → 0 < base → base ≤ 16 → m % base < 16
-rem_small m base h l = let g : m % base < base = mod-lt m h in omega arith
 
 -- The digits so far stand from the place i on, and those of m are still to come before them.
 pub record Digits (base n : ℕ) (ds : List ℕ) (i m : ℕ) : Type 0 where

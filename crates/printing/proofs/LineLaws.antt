@@ -1,10 +1,9 @@
 -- The fields of a line, each with its space, and the lines of a record as pieces.
-use mathlib.Core.Path.{◌≡◌, refl, sym, ap}
+use mathlib.Core.Path.{◌≡◌, refl, ap}
 use mathlib.Core.Bool.{cond}
-use mathlib.Core.List.{List, [], ◌∷◌, ◌++◌, map, append_assoc}
+use mathlib.Core.List.{List, [], ◌∷◌, ◌++◌, map}
 use Prim.Native.Nat.{ℕ, suc, ◌+◌}
 use native.Mathlib.Omega.{arith}
-use lib.Dec.{eqb}
 use lib.ListN.{length, length-append}
 use Rattle.reading.specs.Codes.{codes}
 use Rattle.runs.specs.Item.{Item}
@@ -13,29 +12,14 @@ use Rattle.runs.specs.Print.{decimal, value_field, line, lines, refused_line}
 use Rattle.printing.proofs.PieceLaws.{pieces}
 
 module _ (a m b p q v s e : List ℕ) where
-  fields : a ++ s ++ (m ++ b ++ s) ++ (p ++ s) ++ (q ++ s) ++ v ++ e ≡ a ++ s ++ m ++ b ++ s ++ p ++ s ++ q ++ s ++ v ++ e
-  fields = simp append_assoc
-
   sizes : length (a ++ s ++ m ++ b ++ s ++ p ++ s ++ q ++ s ++ v ++ e) ≡ length a + length (m ++ b ++ s) + length p + length q + length v + (length s + length s + length s + length e)
   sizes = simp length-append (omega arith)
-
-pub type_is : (r n : ℕ) → cond (eqb r 1) (codes "R") [] ++ (decimal n ++ codes " ") ≡ cond (eqb r 1) (codes "R") [] ++ decimal n ++ codes " "
-type_is r n = sym (append_assoc (cond (eqb r 1) (codes "R") []) (decimal n) (codes " "))
-
-pub type_size : (r n : ℕ) → length (cond (eqb r 1) (codes "R") [] ++ decimal n ++ codes " ") ≡ length (cond (eqb r 1) (codes "R") []) + length (decimal n) + 1
-type_size r n = simp length-append
 
 abbrev pub type_field : Item → List ℕ
 type_field i = cond i.is_refusal (codes "R") [] ++ decimal i.number ++ codes " "
 
-pub line-is : (n : ℕ) (i : Item) → decimal n ++ codes " " ++ type_field i ++ (decimal i.position ++ codes " ") ++ (decimal i.reach ++ codes " ") ++ value_field i ++ codes "\n" ≡ line n i
-line-is n i = fields (decimal n) _ (decimal i.number) (decimal i.position) (decimal i.reach) (value_field i) (codes " ") (codes "\n")
-
 pub line-size : (n : ℕ) (i : Item) → length (line n i) ≡ length (decimal n) + length (type_field i) + length (decimal i.position) + length (decimal i.reach) + length (value_field i) + 4
 line-size n i = sizes (decimal n) _ (decimal i.number) (decimal i.position) (decimal i.reach) (value_field i) (codes " ") (codes "\n")
-
-pub refused_is : (n p : ℕ) → codes "R" ++ (decimal n ++ codes " ") ++ decimal p ++ codes "\n" ≡ refused_line n p
-refused_is n p = refl
 
 pub refused_size : (n p : ℕ) → length (refused_line n p) ≡ length (decimal n) + length (decimal p) + 3
 refused_size n p = simp length-append (omega arith)

@@ -3,25 +3,21 @@ use Rattle.std.specs.Prelude.{Option, None, Some, Result, Ok, Err}
 use mathlib.Core.Path.{◌≡◌, refl, sym, ap, ◌∙◌, subst}
 use mathlib.Core.Bool.{false}
 use mathlib.Core.List.{List, [], ◌∷◌}
-use Prim.Native.Nat.{ℕ, zero, suc, ◌+◌, ◌-◌, ◌*◌, ◌≤◌, ◌<◌}
+use Prim.Native.Nat.{ℕ, zero, suc, ◌+◌, ◌-◌, ◌*◌, ◌≤◌}
 use native.Mathlib.Omega.{arith}
-use lib.Dec.{ltb}
-use borrow.Author.Tests.{lt-ltb, le-ltb}
+use borrow.Author.Tests.{le-ltb}
 use lib.ListN.{length, take, drop, length-append}
 use lib.Seq.{take-append_seam}
 use Rattle.reading.specs.Cells.{maybe}
 use Rattle.reading.specs.Slices.{front}
-use Rattle.reading.proofs.Test.{by_test}
 use Rattle.text.specs.Limits.{max_chars, max_bytes}
-use Rattle.text.specs.Refusals.{too_long, short_slice}
-use Rattle.text.specs.Utf8.{Decoded, chars, bad_at, sequence, with_char, decoded_from, decoded, Opened, opened, refused, opening, open_bytes, opened_output}
+use Rattle.text.specs.Utf8.{Decoded, chars, bad_at, sequence, with_char, decoded_from, decoded, Opened, opened, refused, opening, open_bytes}
 use Rattle.text.specs.Opening.{opening_of}
 use Rattle.scope.specs.Entries as entries
 use Rattle.scope.specs.Keys.{is_name}
 use Rattle.scope.specs.Lent.{Lent, is_broken, scope_of}
-use Rattle.lexer.specs.Flags.{Flags, no_flags}
+use Rattle.lexer.specs.Flags.{Flags}
 use Rattle.lexer.specs.Token.{read_token}
-use Rattle.lexer.specs.TokenType
 use Rattle.runs.specs.declared.call.Counts.{Counts}
 use Rattle.runs.proofs.RunCallLaws.{made_of, refused_by}
 use Rattle.std.specs.Prelude.{Result, Ok, Err}
@@ -63,30 +59,9 @@ any_room : (m : ℕ) (d : Decoded) → count d ≤ m → m ≤ max_chars → ope
 any_room m (bad_at p) h l = refl
 any_room m (chars cs) h l = rw (le-ltb max_chars (length cs) (omega arith), le-ltb m (length cs) h)
 
-abbrev opened_count : Opened → ℕ
-opened_count (opened cs) = length cs
-opened_count (refused n p) = 0
-
-opened_few : (m : ℕ) (d : Decoded) → opened_count (opening m d) ≤ count d
-opened_few m (bad_at p) = omega arith
-opened_few m (chars cs) = by_test (λ o. opened_count o ≤ length cs) (ltb max_chars (length cs)) {x = refused too_long 0} (λ _. omega arith)
-    (λ _. by_test (λ o. opened_count o ≤ length cs) (ltb m (length cs)) {x = refused short_slice 0} {y = opened cs} (λ _. omega arith) (λ _. omega arith))
-
--- The cells hold the text that the bytes are opened as, n characters of it.
-pub record Text-in (bytes cells : List ℕ) (n : ℕ) : Type 0 where
-  pub within : n ≤ length cells
-  pub short : n ≤ max_input
-  pub same : lines 0 (run_items (read_token (is_name entries.opened)) TokenType.StartExpression no_flags (take n cells)) ≡ printed bytes
-
-pub printed_long : (bytes : List ℕ) → max_input < length bytes → refused_line too_long 0 ≡ printed bytes
-printed_long bytes h = rw (lt-ltb max_input (length bytes) h)
-
 module _ (bytes cells : List ℕ) (few : length bytes ≤ max_input) (room : length cells ≡ max_input) {r : Result ℕ (ℕ × ℕ)} (answer : r ≡ opening_of (open_bytes bytes (length cells))) where
   all-fits : open_bytes bytes (length cells) ≡ open_bytes bytes max_chars
   all-fits = rw (le-ltb max_bytes (length bytes) (omega arith)) (any_room (length cells) (decoded bytes) (omega (arith, few_chars 0 0 bytes)) (omega arith))
-
-  no_more : opened_count (open_bytes bytes max_chars) ≤ max_input
-  no_more = rw (le-ltb max_bytes (length bytes) (omega arith)) (omega (arith, opened_few max_chars (decoded bytes), few_chars 0 0 bytes))
 
   printed-is : printed_of (open_bytes bytes max_chars) ≡ printed bytes
   printed-is = rw (le-ltb max_input (length bytes) few)
@@ -99,21 +74,6 @@ module _ (bytes cells : List ℕ) (few : length bytes ≤ max_input) (room : len
       go (refused m s) q =
           let r : ◌≡◌ {A = ℕ × ℕ} (n, p) (m, s) = cc in
           rw (ap (λ x. x.0) r, ap (λ x. x.1) r)
-
-  pub printed_text : {cells' : List ℕ} → cells' ≡ opened_output (open_bytes bytes (length cells)) cells → {n : ℕ} → r ≡ Ok n → Text-in bytes cells' n
-  printed_text {cells'} left {n} e =
-      go (open_bytes bytes max_chars) (sym e ∙ answer ∙ ap opening_of all-fits) (left ∙ ap (λ o. opened_output o cells) all-fits) no_more printed-is
-    where
-      go : (o : Opened) → ◌≡◌ {A = Result ℕ (ℕ × ℕ)} (Ok n) (opening_of o) → cells' ≡ opened_output o cells → opened_count o ≤ max_input → printed_of o ≡ printed bytes → Text-in bytes cells' n
-      go (opened cs) q w h g =
-          let m : n ≡ length cs = cc in
-          let z : take n cells' ≡ cs = rw (m, w) (take-append_seam cs (drop (length cs) cells)) in
-          record {
-            within = omega (arith, m, ap length w, length-append cs (drop (length cs) cells));
-            short = omega (arith, m, h);
-            same = rw z g;
-          }
-      go (refused k p) q w h g = cc
 
 -- The rows and the store hold the record of n items.
 pub record Recorded (is : List Item) (n : ℕ) (rows : List (List ℕ)) (store : List ℕ) : Type 0 where

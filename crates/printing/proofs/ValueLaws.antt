@@ -6,17 +6,12 @@ use Prim.Native.Nat.{ℕ, suc, ◌+◌, ◌-◌, min}
 use native.Mathlib.Omega.{arith}
 use lib.Dec.{ltb, eqb}
 use borrow.Author.Tests.{lt-ltb}
-use lib.ListN.{length, get_or, take, drop, length-append, length-take, length-drop, drop_of_length-le}
+use lib.ListN.{length, take, drop, length-append, length-take, length-drop, drop_of_length-le}
 use lib.Seq.{take_all}
-use Rattle.reading.specs.Cells.{is_one_of}
 use Rattle.reading.specs.Codes.{codes}
 use Rattle.reading.specs.Span.{part}
 use Rattle.reading.proofs.Test.{by_order}
-use Rattle.lexer.specs.Read.{text_types}
-use Rattle.lexer.specs.TokenType
-use Rattle.runs.specs.Item.{Item}
-use Rattle.runs.specs.Record.{start_at, length_at, item_of}
-use Rattle.runs.specs.Print.{hexadecimal, joined_by_comma, number_field, truth_field, carry_field, value_field}
+use Rattle.runs.specs.Print.{hexadecimal, joined_by_comma, number_field}
 use Rattle.printing.proofs.PieceLaws.{pieces}
 
 -- A count that goes no further than the list.
@@ -47,9 +42,6 @@ pub number_is : (o : List ℕ) (before after sign : ℕ) (v : List ℕ) {x y z :
     → ((((((o ++ x) ++ codes "/") ++ y) ++ codes "/") ++ c ∷ []) ++ codes "/") ++ z ≡ o ++ number_field before after sign v
 number_is o before after sign v a b c s = rw (a, b, c, s) (simp append_assoc)
 
-pub value_is : (store r : List ℕ) {s l a n : ℕ} → s ≡ get_or r start_at 0 → l ≡ get_or r length_at 0 → a ≡ min s (length store) → n ≡ min l (length store - a) → part store a (a + n) ≡ (item_of store r).value
-value_is store r {s} {l} begins size a-is n-is = part-after store s l a-is n-is refl ∙ rw (begins, size)
-
 sign_size : (b : Bool) → length (cond b (codes "-") (codes "+")) ≡ 1
 sign_size true = refl
 sign_size false = refl
@@ -70,24 +62,3 @@ points_behind n c (d ∷ cs) = rw (lt-ltb 0 (suc n) (omega arith), append_assoc,
 pub points : (cs : List ℕ) → pieces point 0 cs ≡ joined_by_comma cs
 points [] = refl
 points (c ∷ cs) = points_behind 0 c cs
-
--- The value field, test by test.
-module _ (i : Item) where
-  pub value_refused : i.is_refusal ≡ true → carry_field i.number i.extra ≡ value_field i
-  value_refused r = rw r
-
-  module _ (r : i.is_refusal ≡ false) where
-    pub value_number : eqb TokenType.Numeric i.number ≡ true → {before after : ℕ} {v : List ℕ} → before ≡ i.lengths.before → after ≡ i.lengths.after → v ≡ i.value
-        → number_field before after i.extra v ≡ value_field i
-    value_number h b a e = rw (r, h, b, a, e)
-
-    module _ (h : eqb TokenType.Numeric i.number ≡ false) where
-      pub value_text : is_one_of text_types i.number ≡ true → {v : List ℕ} → v ≡ i.value → codes "=" ++ joined_by_comma v ≡ value_field i
-      value_text t e = rw (r, h, t, e)
-
-      module _ (t : is_one_of text_types i.number ≡ false) where
-        pub value_truth : eqb TokenType.Boolean i.number ≡ true → truth_field i.extra ≡ value_field i
-        value_truth b = rw (r, h, t, b)
-
-        pub value_none : eqb TokenType.Boolean i.number ≡ false → codes "-" ≡ value_field i
-        value_none b = rw (r, h, t, b)

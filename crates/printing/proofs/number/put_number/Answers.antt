@@ -1,5 +1,5 @@
 -- The digits so far stand from the index on, and nothing is written yet.
-use Rattle.std.proofs.Common.{◌-◌, ◌++◌, ap, ◌∙◌, length, arith}
+use Rattle.std.proofs.Common.{◌-◌, ap, ◌∙◌, length, arith}
 use borrow.Author.Tests.{lt-ltb, le-ltb}
 use Rattle.printing.proofs.DigitLaws.{digits_last, digits_more, digits-all}
 use Rattle.printing.proofs.number.put_number.Goals as goal
