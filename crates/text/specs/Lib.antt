@@ -5,3 +5,4 @@ pub mod Classes
 pub mod Hex
 pub mod Utf8
 pub mod Opening
+pub mod Output

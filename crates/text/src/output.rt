@@ -1,0 +1,31 @@
+// Cells written one behind the other to a lent slice.
+ghost use Rattle.std.specs.Prelude.{[], ◌∷◌, ◌+◌, ◌≤◌, ◌<◌, length};
+ghost use Rattle.text.specs.Output.{Adds};
+
+// The first `len` cells are written.
+#[derive(Drop)]
+pub struct Output<'a> {
+    pub cells: &'a mut [u32],
+    pub len: usize,
+}
+
+impl<'a> Output<'a> {
+    // Writes one cell.
+    pub fn push(&mut self, c: u32)
+        requires { self.old.len < length self.old.cells.now }
+        ensures { Adds self.old (c ∷ []) self.new }
+    {
+        self.cells[self.len] = c;
+        self.len += 1;
+    }
+
+    // Writes the cells.
+    pub fn append(&mut self, cells: &[u32])
+        requires { self.old.len + length cells.now ≤ length self.old.cells.now }
+        ensures { Adds self.old cells.now self.new }
+    {
+        let end = self.len + cells.len();
+        self.cells[self.len..end].copy_from_slice(cells);
+        self.len = end;
+    }
+}
