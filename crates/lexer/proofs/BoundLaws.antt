@@ -4,11 +4,12 @@ use Rattle.std.specs.declared.ops.Range.{Range}
 use mathlib.Core.Path.{◌≡◌, refl, sym, ap, ◌∙◌, subst}
 use mathlib.Core.Bool.{Bool, true, false}
 use mathlib.Core.List.{List}
-use Prim.Native.Nat.{ℕ, zero, suc, ◌+◌, ◌-◌, ◌≤◌, ◌<◌}
+use Prim.Native.Nat.{ℕ, zero, suc, ◌+◌, ◌≤◌, ◌<◌}
 use native.Mathlib.Omega.{arith}
 use lib.ListN.{length}
 use Rattle.reading.specs.Span.{part}
 use Rattle.reading.proofs.Test.{by_order}
+use Rattle.reading.proofs.Passed.{part_length}
 use Rattle.names.specs.Flatten.{flatten}
 use Rattle.names.specs.Ink.{ink, inks}
 use Rattle.names.proofs.InkLaws.{ink-flatten, ink-length}
@@ -59,7 +60,7 @@ module _ {t : List ℕ} {from n i m total : ℕ} (g : Bounding t from n i m tota
   pub step_on : (i ≤ p.start) × (p.start < p.end) × (p.end ≤ length t)
   step_on = subst (Placed t i) r q.1
 
-  module _ (l : m < n) {w : ℕ} (u : (w ≡ ink (part t p.start p.end)) × (w ≤ p.end - p.start)) where
+  module _ (l : m < n) {w : ℕ} (u : (w ≡ ink (part t p.start p.end)) × (w ≤ length (part t p.start p.end))) where
     more : (k : ℕ) → inks (texts (prefix t (m + suc k) from)) ≡ total + w + inks (texts (prefix t k p.end))
     more k = g.so (suc k) ∙ ap (λ ps. total + inks (texts ps)) (prefix-at t i k p (sym r ∙ q.0)) ∙ omega (arith, u.0)
 
@@ -70,7 +71,7 @@ module _ {t : List ℕ} {from n i m total : ℕ} (g : Bounding t from n i m tota
         record { less = omega arith; so = λ found keys. fit_bound found cap keys t from m (omega (arith, o, h)) n (omega arith) }
 
     pub bounding_more : Bounding t from n p.end (m + 1) (total + w)
-    bounding_more = let k = step_on in let a = k.0 in let b = k.1 in let z = g.size in let y = u.1 in record {
+    bounding_more = let k = step_on in let a = k.0 in let b = k.1 in let z = g.size in let y = u.1 in let v = part_length t p.start p.end k.2 in record {
       upto = omega arith;
       within = k.2;
       size = omega arith;

@@ -16,7 +16,7 @@ use Rattle.reading.proofs.Cell.{cell_there}
 use Rattle.text.specs.Classes.{is_whitespace, is_name_part, is_symbol}
 use Rattle.names.specs.Trim.{trim}
 use Rattle.names.specs.Name.{is_symbol_text}
-use Rattle.names.specs.Spelling.{Trimmed, tied, laid, spelled}
+use Rattle.names.specs.Spelling.{tied, laid, spelled}
 use Rattle.lexer.specs.Naming.{texts}
 use Rattle.lexer.specs.Places.{places, here_of, start_of, next_of, between, Placed, prefix, spelling}
 
@@ -117,27 +117,27 @@ module _ {t o : List ℕ} {new : Bool} {n from i m k : ℕ} {b : Bool} {o' : Lis
     pub spelling_on : {p : Range ℕ} → x ≡ Some p → (i ≤ p.start) × (p.start < p.end) × (p.end ≤ length t)
     spelling_on r = subst (Placed t i) r q.1
 
-    module _ (l : m < n) (room : length (spelling new (prefix t n from)) ≤ length o) {p : Range ℕ} {a z : ℕ} (r : x ≡ Some p) (tr : Trimmed t p.start p.end a z) {c : Bool} (pc : c ≡ tied new b (part t a z)) where
-      step : Tail t new b (n - m) i ≡ laid c (part t a z) ++ Tail t new (new && is_symbol_text (part t a z)) (n - (m + 1)) p.end
+    module _ (l : m < n) (room : length (spelling new (prefix t n from)) ≤ length o) {p : Range ℕ} (r : x ≡ Some p) {w : List ℕ} (tr : w ≡ trim (part t p.start p.end)) {c : Bool} (pc : c ≡ tied new b w) where
+      step : Tail t new b (n - m) i ≡ laid c w ++ Tail t new (new && is_symbol_text w) (n - (m + 1)) p.end
       step =
           let y : n - m ≡ suc (n - (m + 1)) = omega arith in
-          rw (y, prefix-at t i (n - (m + 1)) p (sym r ∙ q.0), tr.cells, pc) (spelled_more new b (part t a z) _)
+          rw (y, prefix-at t i (n - (m + 1)) p (sym r ∙ q.0), ← tr, pc) (spelled_more new b w _)
 
-      total : g.written ++ laid c (part t a z) ++ Tail t new (new && is_symbol_text (part t a z)) (n - (m + 1)) p.end ≡ spelling new (prefix t n from)
+      total : g.written ++ laid c w ++ Tail t new (new && is_symbol_text w) (n - (m + 1)) p.end ≡ spelling new (prefix t n from)
       total = append_assoc g.written _ _ ∙ ap (g.written ++◌) (sym step) ∙ g.rest
 
-      fits : length (g.written ++ laid c (part t a z)) ≤ length o
-      fits = omega (arith, ap length total, length-append (g.written ++ laid c (part t a z)) (Tail t new (new && is_symbol_text (part t a z)) (n - (m + 1)) p.end))
+      fits : length (g.written ++ laid c w) ≤ length o
+      fits = omega (arith, ap length total, length-append (g.written ++ laid c w) (Tail t new (new && is_symbol_text w) (n - (m + 1)) p.end))
 
-      pub spelling-room : k + length (laid c (part t a z)) ≤ length o'
-      spelling-room = omega (arith, fits, length-append g.written (laid c (part t a z)), g.wrote.size, g.same)
+      pub spelling-room : k + length (laid c w) ≤ length o'
+      spelling-room = omega (arith, fits, length-append g.written (laid c w), g.wrote.size, g.same)
 
-      pub spelling_more : {k' : ℕ} {o'' : List ℕ} → Further o' k (laid c (part t a z)) k' o'' → {b' : Bool} → b' ≡ new && is_symbol_text (part t a z) → Spelling t o new n from p.end (m + 1) k' b' o''
-      spelling_more f {b'} pb = let w = f.so o g.written g.wrote in record {
-        written = g.written ++ laid c (part t a z);
-        wrote = w;
+      pub spelling_more : {k' : ℕ} {o'' : List ℕ} → Further o' k (laid c w) k' o'' → {b' : Bool} → b' ≡ new && is_symbol_text w → Spelling t o new n from p.end (m + 1) k' b' o''
+      spelling_more f {b'} pb = let q = f.so o g.written g.wrote in record {
+        written = g.written ++ laid c w;
+        wrote = q;
         within = (spelling_on r).2;
         upto = omega arith;
-        same = wrote_length w fits;
+        same = wrote_length q fits;
         rest = rw pb total;
       }

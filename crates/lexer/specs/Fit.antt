@@ -1,5 +1,5 @@
 -- The longest prefix of a name that is found, by its number of parts.
-use Rattle.std.specs.Prelude.{◌≡◌, Bool, true, false, cond, List, ℕ, zero, suc, ◌*◌, ◌≤◌, ◌<◌, length}
+use Rattle.std.specs.Prelude.{◌≡◌, Bool, true, cond, List, ℕ, zero, suc, ◌*◌, ◌≤◌, ◌<◌, length}
 use Rattle.reading.specs.Slices.{zeros}
 use Rattle.lexer.specs.Flags.{Flags}
 use Rattle.lexer.specs.Naming.{fits, is_property, is_found}

@@ -14,11 +14,11 @@ pub fn bound(rest: &[u32], from: usize, n: usize, cap: usize) -> usize
         let Some(part) = crate::parts::next_part(rest, i) else {
             return n;
         };
-        total += names::ink::ink_of(rest, part.start, part.end);
+        i = part.end;
+        total += names::ink::ink_of(&rest[part]);
         if cap < total {
             return m;
         }
-        i = part.end;
     }
     n
 }

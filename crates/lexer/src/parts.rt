@@ -7,6 +7,7 @@ ghost use Rattle.lexer.specs.Places.{here_of, start_of, next_of, Placed, Counted
 use crate::look;
 use std::ops::Range;
 use text::classes::{NamePart, Symbol, Whitespace};
+use text::output::Output;
 
 // The part that starts at i, if one does.
 fn part_at(rest: &[u32], i: usize) -> Option<Range<usize>>
@@ -74,17 +75,17 @@ pub fn write_parts(rest: &[u32], from: usize, n: usize, new: bool, out: &mut [u3
     ensures { Wrote out.old (spelling new (prefix rest.now n from)) result out.new }
 {
     let mut i = from;
-    let mut written = 0;
+    let mut written = Output { cells: out, len: 0 };
     let mut tight = true;
     for _ in 0..n {
-        let Some(part) = next_part(rest, i) else {
-            return written;
+        let Some(place) = next_part(rest, i) else {
+            return written.len;
         };
-        let t = names::trim::trim(rest, part.start, part.end);
-        let tied = names::name::is_tied(rest, t.from, t.end, new, tight);
-        written = names::name::add_part(rest, t.from, t.end, tied, out, written);
-        tight = names::name::ends_tight(rest, t.from, t.end, new);
-        i = part.end;
+        i = place.end;
+        let part = names::trim::trim(&rest[place]);
+        let tied = names::name::is_tied(part, new, tight);
+        names::name::add_part(part, tied, &mut written);
+        tight = names::name::ends_tight(part, new);
     }
-    written
+    written.len
 }

@@ -1,46 +1,29 @@
--- Six passes over the front of a slice, one law for each further pass.
+-- Passes over the front of a slice, one for each symbol.
+use Rattle.std.specs.List.{list_any}
 use mathlib.Core.Path.{◌≡◌, refl, sym, ap, ◌∙◌}
 use mathlib.Core.Bool.{Bool, true, false, ◌&&◌}
-use mathlib.Core.List.{List, [], ◌∷◌}
-use Prim.Native.Nat.{ℕ, suc, ◌-◌, ◌≤◌, ◌<◌}
+use mathlib.Core.List.{List, [], ◌∷◌, ◌++◌, append_assoc}
+use Prim.Native.Nat.{ℕ, ◌+◌, ◌-◌, ◌≤◌, ◌<◌}
+use native.Mathlib.Numerals.{add-one}
 use native.Mathlib.Omega.{arith}
 use lib.Dec.{eqb}
-use lib.ListN.{length, take, drop, get_or, length-append, length-drop}
-use lib.Seq.{take-append_seam, length-take-le}
+use lib.ListN.{length, take, drop, get_or, length-append, length-drop, drop_of_length-le}
+use lib.Seq.{take-append_seam, length-take-le, take-suc, take_all}
+use Rattle.std.proofs.lemmas.List.{take-append-le}
+use Rattle.std.proofs.lemmas.Slice.{drop-append-drop}
 use Rattle.reading.specs.Codes.{codes}
 use Rattle.reading.specs.Cells.{is_one_of}
 use Rattle.reading.specs.Span.{part}
-use Rattle.reading.specs.Slices.{Wrote}
 use Rattle.reading.proofs.Test.{or_left, or_right}
-use Rattle.reading.proofs.Front.{drop-front}
-use Rattle.reading.proofs.Passed.{part_none, part_more}
+use Rattle.reading.proofs.Passed.{part-drop, part_length}
 use Rattle.text.specs.Classes.{is_symbol}
-use Rattle.names.specs.Trim.{trim}
+use Rattle.names.specs.Trim.{trim_front, trim_back, trim}
 use Rattle.names.specs.Flatten.{tighten, tighten_all, flat}
-use Rattle.names.specs.Spelling.{Trimmed, Tightened, Bare, Left}
+use Rattle.names.specs.Spelling.{Tightened, Left}
 use Rattle.names.proofs.SameLaws.{eqb_sym}
 
-pub left-first : {o v o' : List ℕ} {k : ℕ} (n : ℕ) → Wrote o v k o' → k ≤ n → n ≤ length o → Left o v n k o'
-left-first {o} {v} {o'} {k} n w h l = let z = w.size in record {
-  size = w.size;
-  room = h;
-  front = rw (w.left, w.size) (take-append_seam v (drop (length v) o));
-  behind = rw w.left (drop-front v o n (omega arith));
-  same = rw (w.left, length-append, length-drop) (omega arith);
-}
-
-pub left_again : {o v o' : List ℕ} {n k : ℕ} → Left o v n k o' → {s k' : ℕ} {o'' : List ℕ} → Tightened s o' 0 k k' o'' → n ≤ length o → Left o (tighten s v) n k' o''
-left_again {o} {v} {o'} {n} {k} p {s} {k'} {o''} w l =
-    let m = p.same in let j = p.room in let h = w.less in
-    let z : k - 0 ≡ k = omega arith in
-    let e : part o' 0 k ≡ v = rw z p.front in
-    let q = left-first n w.wrote (omega arith) (omega arith) in record {
-      size = q.size ∙ ap (λ x. length (tighten s x)) e;
-      room = q.room;
-      front = q.front ∙ ap (tighten s) e;
-      behind = q.behind ∙ p.behind;
-      same = q.same ∙ p.same;
-    }
+abbrev pub symbols : List ℕ
+symbols = codes "./-'+*"
 
 -- Where no cell is one of the symbols, no pass changes anything.
 abbrev NoneOf : List ℕ → List ℕ → Type 0
@@ -67,37 +50,97 @@ none_all : (ss xs : List ℕ) → NoneOf ss xs → tighten_all ss xs ≡ xs
 none_all [] xs h = refl
 none_all (s ∷ ss) xs h = rw (none_here s ss xs h) (none_all ss xs (none_behind s ss xs h))
 
-bare_none : (xs : List ℕ) → Bare xs → NoneOf (codes "./-'+*") xs
+none_of_them : (xs : List ℕ) → list_any is_symbol xs ≡ false → NoneOf symbols xs
 unfolding is_symbol
-bare_none [] h = tt
-bare_none (c ∷ cs) h = (h.0, bare_none cs h.1)
+none_of_them [] h = tt
+none_of_them (c ∷ cs) h = (or_left (is_symbol c) (list_any is_symbol cs) h, none_of_them cs (or_right (is_symbol c) (list_any is_symbol cs) h))
 
-pub flat_bare : {o : List ℕ} {n : ℕ} → n ≤ length o → {i e : ℕ} → Trimmed o 0 n i e → (i ≡ 0) × Bare (part o i e) → Left o (flat (take n o)) n e o
-unfolding flat
-flat_bare {o} {n} h {i} {e} t b =
-    let z : n - 0 ≡ n = omega arith in
-    let l = t.end in
-    let q = b.0 in
-    let w : e - i ≡ e = omega arith in
-    let x : part o i e ≡ take e o = rw (w, q) in
-    let y : tighten_all (codes "./-'+*") (trim (take n o)) ≡ take e o = rw (rw z at t.cells) (none_all (codes "./-'+*") (part o i e) (bare_none (part o i e) b.1)) ∙ x in
-    record { size = sym (ap length y ∙ length-take-le e o (omega arith)); room = l; front = sym y; behind = refl; same = refl }
+all_snoc : (ss : List ℕ) (s : ℕ) (xs : List ℕ) → tighten_all (ss ++ s ∷ []) xs ≡ tighten s (tighten_all ss xs)
+all_snoc [] s xs = refl
+all_snoc (t ∷ ss) s xs = all_snoc ss s (tighten t xs)
 
--- One cell more, from the last to the first.
-pub bare_more : (t : List ℕ) (j e : ℕ) → e ≤ length t → 0 < j → j ≤ e → is_symbol (get_or t (j - 1) 0) ≡ false → Bare (part t j e) → Bare (part t (j - 1) e)
-bare_more t j e h l g s b =
-    let k : suc (j - 1) ≡ j = omega arith in
-    rw (part_more t (j - 1) e (omega arith) (omega arith), k) (s, b)
+-- Of the cells o, i passes have been made: what they left stands from `from` up to `end` of c, and behind the first pass at the front.
+pub record Passing (o : List ℕ) (i from end : ℕ) (c : List ℕ) : Type 0 where
+  pub on : from ≤ end
+  pub within : end ≤ length c
+  pub same : length c ≡ length o
+  pub cells : part c from end ≡ tighten_all (take i symbols) (trim o)
+  pub first : 1 ≤ i → from ≤ 0
 
-pub bare_end : (t : List ℕ) (e : ℕ) → Bare (part t e e)
-bare_end t e = rw (part_none t e) tt
+module _ {o f w : List ℕ} (front : f ≡ trim_front o) (behind : f ≡ drop (length o - length f) o) (few : length f ≤ length o)
+    (whole : w ≡ trim_back f) (before : w ≡ take (length w) f) (fewer : length w ≤ length f) where
+  pub passing_none : Passing o 0 (length o - length f) (length o - length f + length w) o
+  unfolding trim
+  passing_none =
+      let z : length o - length f + length w - (length o - length f) ≡ length w = omega arith in
+      record {
+        on = omega arith;
+        within = omega arith;
+        same = refl;
+        cells = rw (z, ← behind, ← before, whole, front);
+        first = λ h. absurd (omega arith);
+      }
 
-pub flat-all : {o : List ℕ} {n : ℕ} → n ≤ length o → {i e : ℕ} → Trimmed o 0 n i e → {a : ℕ} {o₁ : List ℕ} → Tightened 0x2E o i e a o₁
-    → {b : ℕ} {o₂ : List ℕ} → Tightened 0x2F o₁ 0 a b o₂ → {c : ℕ} {o₃ : List ℕ} → Tightened 0x2D o₂ 0 b c o₃ → {d : ℕ} {o₄ : List ℕ} → Tightened 0x27 o₃ 0 c d o₄
-    → {f : ℕ} {o₅ : List ℕ} → Tightened 0x2B o₄ 0 d f o₅ → {g : ℕ} {o₆ : List ℕ} → Tightened 0x2A o₅ 0 f g o₆ → Left o (flat (take n o)) n g o₆
-unfolding flat
-flat-all {o} {n} h {i} {e} t p q r s u v =
-    let z : n - 0 ≡ n = omega arith in
-    let y : trim (take n o) ≡ part o i e = rw z at t.cells in
-    let j = p.less in let l = t.end in
-    rw y (left_again (left_again (left_again (left_again (left_again (left-first n p.wrote (omega arith) h) q h) r h) s h) u h) v h)
+-- A part of the cells up to an end is a part of them all.
+part-take : (c : List ℕ) (from end : ℕ) → end ≤ length c → part (take end c) from (length (take end c)) ≡ part c from end
+part-take c from end h =
+    let z : end - 0 ≡ end = omega arith in
+    let y : 0 + from ≡ from = omega arith in
+    let d : drop from (take end c) ≡ part c from end = rw (z, y) at (part-drop c 0 end from) in
+    rw (length-take-le end c h, d) (take_all (end - from) (part c from end) (omega (arith, part_length c from end h)))
+
+module _ {o c : List ℕ} {i from end : ℕ} (p : Passing o i from end c) where
+  -- The cells up to the end, taken apart, are passed over once more.
+  pub passing_more : {k : ℕ} {t : List ℕ} → i < 6 → Tightened (get_or symbols i 0) (take end c) from (length (take end c)) k t → Passing o (i + 1) 0 k (t ++ drop end c)
+  passing_more {k} {t} l w =
+      let h = p.within in let e = p.same in let n = w.less in
+      let s = get_or symbols i 0 in
+      let v = tighten s (part (take end c) from (length (take end c))) in
+      let m : length t ≡ end = w.same ∙ length-take-le end c h in
+      let z : k - 0 ≡ k = omega arith in
+      let f : take k (t ++ drop end c) ≡ v = rw (w.wrote.left, append_assoc, w.wrote.size) (take-append_seam v _) in
+      record {
+        on = omega arith;
+        within = omega (arith, length-append t (drop end c), length-take-le end c h);
+        same = length-append t (drop end c) ∙ omega (arith, length-drop end c);
+        cells = rw (z, f, part-take c from end h, p.cells, add-one, take-suc symbols i 0 l) (sym (all_snoc (take i symbols) s (trim o)));
+        first = λ _. omega arith;
+      }
+
+  left_at : take end c ≡ flat o → Left o (flat o) (length o) end c
+  left_at e =
+      let h = p.within in let q = p.same in
+      record {
+        size = omega (arith, ap length e, length-take-le end c h);
+        room = omega arith;
+        front = e;
+        behind = drop_of_length-le c (omega arith) ∙ sym (drop_of_length-le o (omega arith));
+        same = q;
+      }
+
+  at_front : from ≡ 0 → take end c ≡ tighten_all (take i symbols) (trim o)
+  at_front z = let y : end - 0 ≡ end = omega arith in rw (z, y) at p.cells
+
+  pub passing_bare : i ≡ 0 → from ≡ 0 → list_any is_symbol (take end c) ≡ false → Left o (flat o) (length o) end c
+  unfolding flat
+  passing_bare h z n =
+      let x : take end c ≡ trim o = rw h at (at_front z) in
+      left_at (x ∙ sym (none_all symbols (trim o) (none_of_them (trim o) (rw x at n))))
+
+  pub passing_all : 6 ≤ i → Left o (flat o) (length o) end c
+  unfolding flat
+  passing_all h = left_at (rw (take_all i symbols h) at (at_front (omega (arith, p.first (omega arith)))))
+
+-- The first k cells of o made flat, seen in all of them.
+pub left_within : {o v t : List ℕ} {k j : ℕ} → k ≤ length o → Left (take k o) v (length (take k o)) j t → Left o v k j (t ++ drop k o)
+left_within {o} {v} {t} {k} {j} h f =
+    let z = length-take-le k o h in
+    let m : length t ≡ k = f.same ∙ z in
+    let l : j ≤ length t = omega (arith, f.room, z) in
+    record {
+      size = f.size;
+      room = omega (arith, f.room, z);
+      front = take-append-le j t (drop k o) l ∙ f.front;
+      behind = drop-append-drop k o t k (omega arith) m;
+      same = length-append t (drop k o) ∙ omega (arith, length-drop k o);
+    }

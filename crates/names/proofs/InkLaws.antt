@@ -2,16 +2,15 @@
 use mathlib.Core.Path.{◌≡◌, refl, sym, ap, ◌∙◌}
 use mathlib.Core.Bool.{Bool, true, false, cond, not, ◌&&◌, false≢true}
 use mathlib.Core.List.{List, [], ◌∷◌, ◌++◌, map, reverse, reverse-cons}
-use Prim.Native.Nat.{ℕ, suc, ◌+◌, ◌-◌, ◌≤◌, ◌<◌}
+use Prim.Native.Nat.{ℕ, suc, ◌+◌, ◌≤◌}
 use native.Mathlib.Omega.{arith}
-use native.Mathlib.Numerals.{add-one}
+use Rattle.std.specs.Prelude.{count_by}
+use Rattle.std.proofs.lemmas.List.Sums.{sum_by-cons}
 use lib.Dec.{eqb}
-use lib.ListN.{length, get_or}
+use lib.ListN.{length}
 use borrow.Author.Tests.{eqb-true}
 use Rattle.reading.specs.Codes.{codes}
-use Rattle.reading.specs.Span.{part}
 use Rattle.reading.proofs.Test.{by_test, both, all_of}
-use Rattle.reading.proofs.Passed.{part_more}
 use Rattle.text.specs.Classes.{is_white}
 use Rattle.names.specs.Trim.{trim_front, trim}
 use Rattle.names.specs.Flatten.{join_by_space, tighten, tighten_all, flat, flatten}
@@ -107,38 +106,11 @@ pub ink-length : (l : List ℕ) → ink l ≤ length l
 ink-length [] = omega arith
 ink-length (x ∷ l) = by_test (λ n. n ≤ suc (length l)) (is_white x) (λ _. omega (arith, ink-length l)) (λ _. omega (arith, ink-length l))
 
--- A loop that counts from s up to e stands at j.
-pub record Inking (t : List ℕ) (s e j n : ℕ) : Type 0 where
-  pub from : s ≤ j
-  pub within : j ≤ e
-  pub size : n ≤ j - s
-  pub rest : n + ink (part t j e) ≡ ink (part t s e)
-
-pub inking_none : (t : List ℕ) (s e : ℕ) → s ≤ e → Inking t s e s 0
-inking_none t s e h = record { from = omega arith; within = h; size = omega arith; rest = omega arith }
-
-module _ {t : List ℕ} {s e j n : ℕ} (k : Inking t s e j n) where
-  pub inking_more : {w : ℕ} → (w ≡ cond (is_white (get_or t j 0)) 0 1) × (w ≤ 1) → j < e → e ≤ length t → Inking t s e (j + 1) (n + w)
-  inking_more {w} q l h = let f = k.from in let z = k.size in let o = q.1 in record {
-    from = omega arith;
-    within = omega arith;
-    size = omega arith;
-    rest = omega (arith, k.rest, ap ink (part_more t j e (omega arith) l), go (is_white (get_or t j 0)) q.0);
-  }
-    where
-      go : (b : Bool) → w ≡ cond b 0 1 → w + ink (part t (j + 1) e) ≡ cond b (ink (part t (suc j) e)) (suc (ink (part t (suc j) e)))
-      go true p = rw add-one (omega (arith, p))
-      go false p = rw add-one (omega (arith, p))
-
-  pub inking_all : e ≤ j → (n ≡ ink (part t s e)) × (n ≤ e - s)
-  inking_all l =
-      let z : e - j ≡ 0 = omega arith in
-      let r : ink (part t j e) ≡ 0 = rw z in
-      let f = k.within in let g = k.size in (omega (arith, k.rest, r), omega arith)
-
-module _ (x : ℕ) {b : Bool} (p : b ≡ is_white x) where
-  pub weigh_none : b ≡ true → (◌≡◌ {A = ℕ} 0 (cond (is_white x) 0 1)) × (0 ≤ 1)
-  weigh_none e = (rw (sym p ∙ e), omega arith)
-
-  pub weigh_one : b ≡ false → (◌≡◌ {A = ℕ} 1 (cond (is_white x) 0 1)) × (1 ≤ 1)
-  weigh_one e = (rw (sym p ∙ e), omega arith)
+-- It is what code counts.
+pub ink_counts : (l : List ℕ) → ink l ≡ count_by (λ c. not (is_white c)) l
+ink_counts [] = refl
+ink_counts (x ∷ l) = go (is_white x) (ink_counts l) ∙ sym (sum_by-cons (λ c. cond (not (is_white c)) 1 0) x l)
+  where
+    go : (w : Bool) → ink l ≡ count_by (λ c. not (is_white c)) l → cond w (ink l) (suc (ink l)) ≡ cond (not w) 1 0 + count_by (λ c. not (is_white c)) l
+    go true e = omega (arith, e)
+    go false e = omega (arith, e)

@@ -1,6 +1,5 @@
 pub mod Shorter
 pub mod NameCases
-pub mod TrimLaws
 pub mod TightenLaws
 pub mod FlattenLaws
 pub mod SameLaws

@@ -2,17 +2,8 @@
 use Rattle.std.specs.Prelude.{◌≡◌, Bool, false, cond, ◌&&◌, ◌||◌, List, [], ◌∷◌, ◌++◌, ℕ, ◌-◌, ◌≤◌, eqb, length, take, drop}
 use Rattle.reading.specs.Span.{part}
 use Rattle.reading.specs.Slices.{Wrote}
-use Rattle.text.specs.Classes.{is_symbol}
-use Rattle.names.specs.Trim.{trim}
 use Rattle.names.specs.Name.{is_symbol_text, is_empty}
 use Rattle.names.specs.Flatten.{tighten}
-
--- The cells of t from i up to e, trimmed, are those from a up to b.
-pub record Trimmed (t : List ℕ) (i e a b : ℕ) : Type 0 where
-  pub cells : trim (part t i e) ≡ part t a b
-  pub from : i ≤ a
-  pub on : a ≤ b
-  pub end : b ≤ e
 
 -- A list begins with a space, s and a space.
 abbrev pub spaced : ℕ → List ℕ → Bool
@@ -26,11 +17,6 @@ pub record Tightened (s : ℕ) (o : List ℕ) (i e k : ℕ) (o' : List ℕ) : Ty
   pub wrote : Wrote o (tighten s (part o i e)) k o'
   pub less : k ≤ e - i
   pub same : length o' ≡ length o
-
--- No cell is a symbol.
-abbrev pub Bare : List ℕ → Type 0
-Bare [] = Unit {0}
-Bare (c ∷ cs) = (is_symbol c ≡ false) × Bare cs
 
 -- What found o and left o' has the k cells v at its front, and changed nothing from cell n on; what lies between is free.
 pub record Left (o v : List ℕ) (n k : ℕ) (o' : List ℕ) : Type 0 where

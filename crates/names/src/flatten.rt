@@ -1,82 +1,74 @@
 // Flattening, in place: one pass a symbol.
-ghost use Rattle.std.specs.Prelude.{◌≡◌, true, cond, ◌+◌, ◌≤◌, ◌<◌, length, take};
-ghost use Rattle.reading.specs.Span.{part};
+ghost use Rattle.std.specs.Prelude.{◌≡◌, ◌≤◌, length};
+ghost use Rattle.std.specs.List.{list_any};
+ghost use Rattle.text.specs.Classes.{is_symbol};
 ghost use Rattle.names.specs.Flatten.{flat};
-ghost use Rattle.names.specs.Spelling.{spaced, Tightened, Bare, Left};
+ghost use Rattle.names.specs.Spelling.{spaced, Tightened, Left};
 
+use crate::trim::{trim_back, trim_front};
 use text::chars::Char;
+use text::classes::{Class, Symbol};
 
-// 1 if a space, s and a space stand at i, else 0.
-fn gap(s: u32, buf: &[u32], i: usize, end: usize) -> usize
-    requires { (i < end) × (end ≤ length buf.now) }
-    ensures { (result ≡ cond (spaced s (part buf.now i end)) 1 0) × (i + result + result < end) }
+// The symbols, in the order of their passes.
+static SYMBOLS: [u32; 6] = [
+    Char::DOT,
+    Char::SLASH,
+    Char::MINUS,
+    Char::APOSTROPHE,
+    Char::PLUS,
+    Char::STAR,
+];
+
+// Whether the cells begin with a space, s and a space.
+fn is_spaced(s: u32, cells: &[u32]) -> bool
+    ensures { result ≡ spaced s cells.now }
 {
-    if end - i < 3 {
-        return 0;
-    }
-    if buf[i] != Char::SPACE {
-        return 0;
-    }
-    if buf[i + 1] != s {
-        return 0;
-    }
-    if buf[i + 2] != Char::SPACE {
-        return 0;
-    }
-    1
+    matches!(cells, [Char::SPACE, c, Char::SPACE, ..] if *c == s)
 }
 
-// Writes the cells from `from` up to end to the front of buf, each " s " made s from left to right; answers how many they are then.
+// Writes the cells from `from` on to the front, each " s " made s from left to right; answers how many they are then.
+// In place: what is written lags behind what is read, so the two places are counted.
 // Ruled out, among others: a space left before the symbol; a pass that starts over behind each match.
-pub fn tighten(s: u32, buf: &mut [u32], from: usize, end: usize) -> usize
-    requires { (from ≤ end) × (end ≤ length buf.old) }
-    ensures { Tightened s buf.old from end result buf.new }
+pub fn tighten(s: u32, cells: &mut [u32], from: usize) -> usize
+    requires { from ≤ length cells.old }
+    ensures { Tightened s cells.old from (length cells.old) result cells.new }
 {
     let mut i = from;
-    let mut k: usize = 0;
-    while i < end {
-        let o = gap(s, buf, i, end);
-        buf[k] = buf[i + o];
+    let mut k = 0;
+    while i < cells.len() {
+        if is_spaced(s, &cells[i..]) {
+            cells[k] = s;
+            i += 3;
+        } else {
+            cells[k] = cells[i];
+            i += 1;
+        }
         k += 1;
-        i = i + o + o + 1;
     }
     k
 }
 
-// Whether the cells from `from` up to end stand at the front and hold no symbol, as most names do: then they are flat as they are.
-fn is_flat(buf: &[u32], from: usize, end: usize) -> bool
-    requires { (from ≤ end) × (end ≤ length buf.now) }
-    ensures { result ≡ true → (from ≡ 0) × Bare (part buf.now from end) }
+fn has_symbol(cells: &[u32]) -> bool
+    ensures { result ≡ list_any is_symbol cells.now }
 {
-    if 0 < from {
-        return false;
-    }
-    let mut j = end;
-    while 0 < j {
-        if text::classes::is_additional_name_symbol(buf[j - 1]) {
-            return false;
-        }
-        j -= 1;
-    }
-    true
+    cells.iter().any(|c| Symbol::has(*c))
 }
 
-// Makes the first n cells of buf, parts joined by spaces, flat; answers how many they are then.
+// Makes the cells, parts joined by spaces, flat; answers how many they are then.
 // Ruled out, among others: the whole not trimmed; one pass forgotten, or passes in another order.
-pub fn flatten(buf: &mut [u32], n: usize) -> usize
-    requires { n ≤ length buf.old }
-    ensures { Left buf.old (flat (take n buf.old)) n result buf.new }
+pub fn flatten(cells: &mut [u32]) -> usize
+    ensures { Left cells.old (flat cells.old) (length cells.old) result cells.new }
 {
-    let whole = crate::trim::trim(buf, 0, n);
-    let from = whole.from;
-    let end = whole.end;
-    if is_flat(buf, from, end) {
+    let front = trim_front(cells);
+    let mut from = cells.len() - front.len();
+    let mut end = from + trim_back(front).len();
+    // Most names have no symbol, and are flat as they are.
+    if from == 0 && !has_symbol(&cells[..end]) {
         return end;
     }
-    let a = tighten(Char::DOT, buf, from, end);
-    let b = tighten(Char::SLASH, buf, 0, a);
-    let c = tighten(Char::MINUS, buf, 0, b);
-    let d = tighten(Char::APOSTROPHE, buf, 0, c);
-    let e = tighten(Char::PLUS, buf, 0, d);
-    tighten(Char::STAR, buf, 0, e)
+    for s in &SYMBOLS {
+        end = tighten(*s, &mut cells[..end], from);
+        from = 0;
+    }
+    end
 }

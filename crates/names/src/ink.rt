@@ -1,29 +1,14 @@
 // How much of a text is no white space.
-ghost use Rattle.std.specs.Prelude.{◌≡◌, cond, ◌-◌, ◌≤◌, length};
-ghost use Rattle.reading.specs.Span.{part};
-ghost use Rattle.text.specs.Classes.{is_white};
+ghost use Rattle.std.specs.Prelude.{◌≡◌, ◌≤◌, length};
 ghost use Rattle.names.specs.Ink.{ink};
 
-// 1 for a cell that is no white space, else 0.
-fn weight(c: u32) -> usize
-    ensures { (result ≡ cond (is_white c) 0 1) × (result ≤ 1) }
-{
-    if text::classes::is_white_space(c) {
-        return 0;
-    }
-    1
-}
+use text::classes::{Class, White};
 
-// How many of the cells from s up to e are no white space.
-pub fn ink_of(cells: &[u32], s: usize, e: usize) -> usize
-    requires { (s ≤ e) × (e ≤ length cells.now) }
-    ensures { (result ≡ ink (part cells.now s e)) × (result ≤ e - s) }
+// How many of the cells are no white space.
+#[tactic(auto, using(crate::proofs::InkLaws::ink_counts))]
+pub fn ink_of(cells: &[u32]) -> usize
+    ensures ink { result ≡ ink cells.now }
+    ensures within { result ≤ length cells.now }
 {
-    let mut j = s;
-    let mut n: usize = 0;
-    while j < e {
-        n += weight(cells[j]);
-        j += 1;
-    }
-    n
+    cells.iter().filter(|c| !White::has(**c)).count()
 }

@@ -1,84 +1,53 @@
 // Parts put behind one another: as `Name::new` joins them, or by spaces.
-ghost use Rattle.std.specs.Prelude.{◌≡◌, ◌&&◌, [], ◌+◌, ◌-◌, ◌≤◌, length, drop};
+ghost use Rattle.std.specs.Prelude.{◌≡◌, ◌&&◌, ◌+◌, ◌-◌, ◌≤◌, length, drop};
 ghost use Rattle.std.proofs.Math.Seq.{paste};
-ghost use Rattle.reading.specs.Span.{part};
-ghost use Rattle.reading.specs.Slices.{Further};
-ghost use Rattle.names.specs.Name.{is_symbol_text};
+ghost use Rattle.text.specs.Output.{Adds};
+ghost use Rattle.names.specs.Name as spec;
 ghost use Rattle.names.specs.Spelling.{tied, laid};
 
 use text::chars::Char;
+use text::classes::{Class, Symbol};
+use text::output::Output;
 
 // Copies the cells from at up to end to the place k of out; answers the place behind them.
 pub fn copy(cells: &[u32], at: usize, end: usize, out: &mut [u32], k: usize) -> usize
     requires { (at ≤ end) × (end ≤ length cells.now) × (k + (end - at) ≤ length out.old) }
     ensures { (result ≡ k + (end - at)) × (out.new ≡ paste out.old k (drop at cells.now) (end - at)) }
 {
-    let n = end - at;
-    let mut j: usize = 0;
-    while j < n {
-        out[k + j] = cells[at + j];
-        j += 1;
-    }
-    k + n
+    let behind = k + (end - at);
+    out[k..behind].copy_from_slice(&cells[at..end]);
+    behind
 }
 
-// Whether the cells from a up to z are one symbol.
-fn is_symbol_text(cells: &[u32], a: usize, z: usize) -> bool
-    requires { (a ≤ z) × (z ≤ length cells.now) }
-    ensures { result ≡ is_symbol_text (part cells.now a z) }
+fn is_symbol_text(part: &[u32]) -> bool
+    ensures { result ≡ spec.is_symbol_text part.now }
 {
-    if z - a != 1 {
-        return false;
-    }
-    text::classes::is_additional_name_symbol(cells[a])
+    matches!(part, [c] if Symbol::has(*c))
 }
 
 // Whether a part stands right behind what comes before it; tight says that it does anyway.
-pub fn is_tied(cells: &[u32], a: usize, z: usize, new: bool, tight: bool) -> bool
-    requires { (a ≤ z) × (z ≤ length cells.now) }
-    ensures { result ≡ tied new tight (part cells.now a z) }
+#[tactic(auto, unfolding(crate::specs::Spelling::tied))]
+pub fn is_tied(part: &[u32], new: bool, tight: bool) -> bool
+    ensures { result ≡ tied new tight part.now }
 {
-    if tight {
-        return true;
-    }
-    if !new {
-        return false;
-    }
-    if z <= a {
-        return true;
-    }
-    is_symbol_text(cells, a, z)
+    tight || new && (part.is_empty() || is_symbol_text(part))
 }
 
 // Whether the part behind this one stands right behind it.
-pub fn ends_tight(cells: &[u32], a: usize, z: usize, new: bool) -> bool
-    requires { (a ≤ z) × (z ≤ length cells.now) }
-    ensures { result ≡ new && is_symbol_text (part cells.now a z) }
+pub fn ends_tight(part: &[u32], new: bool) -> bool
+    ensures { result ≡ new && spec.is_symbol_text part.now }
 {
-    if !new {
-        return false;
-    }
-    is_symbol_text(cells, a, z)
+    new && is_symbol_text(part)
 }
 
-// Writes a space at the place k unless tight.
-fn add_space(tight: bool, out: &mut [u32], k: usize) -> usize
-    requires { k + length (laid tight []) ≤ length out.old }
-    ensures { Further out.old k (laid tight []) result out.new }
-{
-    if tight {
-        return k;
-    }
-    out[k] = Char::SPACE;
-    k + 1
-}
-
-// Writes the cells from a up to z behind the k cells at the front of out, after a space unless tight.
+// Writes a part, after a space unless tight.
 // Ruled out, among others: a space at the front of a name; a part written over the space before it.
-pub fn add_part(cells: &[u32], a: usize, z: usize, tight: bool, out: &mut [u32], k: usize) -> usize
-    requires { (a ≤ z) × (z ≤ length cells.now) × (k + length (laid tight (part cells.now a z)) ≤ length out.old) }
-    ensures { Further out.old k (laid tight (part cells.now a z)) result out.new }
+pub fn add_part(part: &[u32], tight: bool, out: &mut Output<'_>)
+    requires { out.old.len + length (laid tight part.now) ≤ length out.old.cells.now }
+    ensures { Adds out.old (laid tight part.now) out.new }
 {
-    let j = add_space(tight, out, k);
-    copy(cells, a, z, out, j)
+    if !tight {
+        out.push(Char::SPACE);
+    }
+    out.append(part);
 }

@@ -1,53 +1,45 @@
-// Trimming: white space at the ends of a part of a slice.
-ghost use Rattle.std.specs.Prelude.{◌≡◌, ◌≤◌, length};
-ghost use Rattle.reading.specs.Span.{part};
-ghost use Rattle.names.specs.Trim.{trim_front, trim_back};
-ghost use Rattle.names.specs.Spelling.{Trimmed};
+// Trimming: white space at the ends.
+ghost use Rattle.std.specs.Prelude.{◌≡◌, ◌-◌, ◌≤◌, length, take, drop};
+ghost use Rattle.names.specs.Trim as spec;
 
-// Where the cells from i up to end begin when trimmed in front.
-fn trim_front(buf: &[u32], i: usize, end: usize) -> usize
-    requires { (i ≤ end) × (end ≤ length buf.now) }
-    ensures { (trim_front (part buf.now i end) ≡ part buf.now result end) × (i ≤ result) × (result ≤ end) }
+use text::classes::{Class, White};
+
+// The cells without the white space in front.
+pub(crate) fn trim_front(cells: &[u32]) -> &[u32]
+    ensures value { result.now ≡ spec.trim_front cells.now }
+    ensures place { result.now ≡ drop (length cells.now - length result.now) cells.now }
+    ensures within { length result.now ≤ length cells.now }
 {
-    let mut j = i;
-    while j < end {
-        if !text::classes::is_white_space(buf[j]) {
-            return j;
-        }
-        j += 1;
+    let mut rest = cells;
+    while let [c, tail @ ..] = rest
+        && White::has(*c)
+    {
+        rest = tail;
     }
-    j
+    rest
 }
 
-// Where they end when trimmed at the back.
-fn trim_back(buf: &[u32], i: usize, end: usize) -> usize
-    requires { (i ≤ end) × (end ≤ length buf.now) }
-    ensures { (trim_back (part buf.now i end) ≡ part buf.now i result) × (i ≤ result) × (result ≤ end) }
+// The cells without the white space at the back.
+pub(crate) fn trim_back(cells: &[u32]) -> &[u32]
+    ensures value { result.now ≡ spec.trim_back cells.now }
+    ensures place { result.now ≡ take (length result.now) cells.now }
+    ensures within { length result.now ≤ length cells.now }
 {
-    let mut j = end;
-    while i < j {
-        if !text::classes::is_white_space(buf[j - 1]) {
-            return j;
-        }
-        j -= 1;
+    let mut rest = cells;
+    while let [front @ .., c] = rest
+        && White::has(*c)
+    {
+        rest = front;
     }
-    j
+    rest
 }
 
-// A part of a slice.
-#[derive(Clone, Copy)]
-pub struct Span {
-    pub from: usize,
-    pub end: usize,
-}
-
-// The cells from i up to end, trimmed.
+// The cells, trimmed.
 // Ruled out, among others: white space left at the back; U+180E, which is no White_Space, taken away.
-pub fn trim(buf: &[u32], i: usize, end: usize) -> Span
-    requires { (i ≤ end) × (end ≤ length buf.now) }
-    ensures { Trimmed buf.now i end result.from result.end }
+#[tactic(auto, unfolding(crate::specs::Trim::trim))]
+pub fn trim(cells: &[u32]) -> &[u32]
+    ensures value { result.now ≡ spec.trim cells.now }
+    ensures within { length result.now ≤ length cells.now }
 {
-    let a = trim_front(buf, i, end);
-    let b = trim_back(buf, a, end);
-    Span { from: a, end: b }
+    trim_back(trim_front(cells))
 }

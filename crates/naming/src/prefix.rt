@@ -44,7 +44,7 @@ fn find_parts(
     ensures clean { scratch.new ≡ scratch.old }
 {
     let k = lexer::parts::write_parts(rest, from, m, false, scratch);
-    let j = names::flatten::flatten(scratch, k);
+    let j = names::flatten::flatten(&mut scratch[..k]);
     let found = find(&scratch[..j], flags, scope);
     scratch[..k].fill(0);
     found

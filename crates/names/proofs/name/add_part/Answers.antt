@@ -1,18 +1,24 @@
--- A space or none, then the copied cells.
-use native.Mathlib.Omega.{arith}
-use Rattle.names.proofs.NameLaws.{room_space, add_room, add_all}
+-- A space or none, then the part.
+use Rattle.std.proofs.Common.{arith}
+use Rattle.text.proofs.OutputLaws.{adds_more}
+use Rattle.names.specs.Spelling.{laid}
 use Rattle.names.proofs.name.add_part.Goals as goal
+use Rattle.names.proofs.name.add_part.Goals.{then-not-tight, else-not-tight}
 
-pub add_space-j-requires : goal.add_space-j-requires
-add_space-j-requires c = room_space c.args.tight _ c.args.k _ c.requires.2
+pub push-requires : goal.push-requires
+unfolding laid
+push-requires c = omega (arith, rw c.if-not-tight.true at c.requires)
 
-pub copy-requires : goal.copy-requires
-copy-requires c =
-    let x = c.args in
-    let l = add_room _ x.a x.z x.tight c.add_space-j.ensures (omega arith) c.requires.2 in
-    (omega arith, omega arith, omega arith)
+pub append-requires : goal.append-requires
+unfolding laid
+append-requires c = elim c.if-not-tight.branch [
+  | then-not-tight w ↦ rw w.out-is (omega (arith, rw w.if-not-tight.true at c.requires, w.push.ensures.further.size, w.push.ensures.same))
+  | else-not-tight w ↦ rw w.out-is (omega (arith, rw w.if-not-tight.false at c.requires))
+]
 
 pub returns : goal.returns
-returns c =
-    let x = c.args in
-    add_all _ x.a x.z x.tight c.add_space-j.ensures (omega arith) c.copy.ensures.0 c.copy.ensures.1
+unfolding laid
+returns c = elim c.if-not-tight.branch [
+  | then-not-tight w ↦ rw w.if-not-tight.true (adds_more w.push.ensures (rw w.out-is at c.append.ensures))
+  | else-not-tight w ↦ rw w.if-not-tight.false (rw w.out-is at c.append.ensures)
+]

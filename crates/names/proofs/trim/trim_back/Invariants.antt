@@ -1,9 +1,14 @@
--- One record carries what is trimmed so far.
-use Rattle.names.proofs.TrimLaws.{Back}
+-- What is left is trimmed as the whole is.
+use Rattle.std.proofs.Common.{◌≡◌, ◌≤◌, length, take}
+use Rattle.names.specs.Trim as spec
 use Rattle.names.proofs.trim.trim_back.Given as goal
 
-abbrev pub invariant-loop-j : goal.invariant-loop-j
-invariant-loop-j l = Back l.buf l.i l.end l.j
+abbrev pub invariant-loop-rest : goal.invariant-loop-rest
+invariant-loop-rest l = record {
+  same : spec.trim_back l.rest ≡ spec.trim_back l.cells;
+  place : l.rest ≡ take (length l.rest) l.cells;
+  within : length l.rest ≤ length l.cells;
+}
 
-abbrev pub decreases-loop-j : goal.decreases-loop-j
-decreases-loop-j l = l.j
+abbrev pub decreases-loop-rest : goal.decreases-loop-rest
+decreases-loop-rest l = length l.rest
