@@ -11,7 +11,8 @@ use borrow.Author.Tests.{lt-ltb, le-ltb, le-leb, lt-leb, eq-eqb, ne_eqb}
 use Rattle.reading.specs.Look.{Look, done, cell_at}
 use Rattle.reading.specs.Goes.{got, Goes}
 use Rattle.reading.specs.Slices.{front}
-use Rattle.reading.proofs.Cell.{cell_in, cell_out}
+use Rattle.reading.specs.Cells.{holds}
+use Rattle.reading.proofs.Cell.{cell_in, cell_out, cell_there, holds_in}
 use Rattle.reading.proofs.Front.{front_snoc}
 use Rattle.reading.proofs.Going.{Stands, begins, asks, takes_on, finds, goes_on_lem}
 use Rattle.text.specs.Limits.{max_chars}
@@ -29,7 +30,7 @@ use Rattle.lexer.specs.declared.string.Broken.{Broken}
 use Rattle.lexer.specs.declared.string.Piece.{Piece}
 use Rattle.lexer.specs.declared.string.Piece.TheVariants.{Char, Quote, LineEnd, TextEnd}
 use Rattle.lexer.specs.declared.string.Literal.TheVariants.{Chars, LineEnds, TextEnds}
-use Rattle.lexer.specs.Pieces.{Inside, Written, hex_of, hex_reach, Hexed, piece_of, least_end, end_of, Pieced, At}
+use Rattle.lexer.specs.Pieces.{is_plain, Inside, Written, hex_of, hex_reach, Hexed, piece_of, least_end, end_of, Pieced, At}
 
 abbrev Answer : Type 0
 Answer = Result Piece Broken
@@ -236,8 +237,12 @@ module _ (t : List ℕ) (i : ℕ) where
         piece_one h r u = record { reach = i + 2; low = omega arith; high = omega arith; from = omega arith; within = omega arith; goes = λ s. finds (rw (ne_eqb 0x5C x e, ne_eqb 0x22 x f, sym g ∙ h) at (there_looked r u s)) }
 
     -- A character that is none of those stands for itself.
-    pub plain_piece : {b : Bool} → b ≡ not (eqb 0x5C x || eqb 0x22 x || is_vertical_space x) → b ≡ true → At t i (Ok (Char x (i + 1)))
-    plain_piece p f r u = record { reach = i + 2; low = omega arith; high = omega arith; from = omega arith; within = omega arith; goes = λ s. let z = none_of (eqb 0x5C x) (eqb 0x22 x) (is_vertical_space x) (sym p ∙ f) in finds (rw (z.0, z.1, z.2) at (there_looked r u s)) }
+    plain_piece : {b : Bool} → is_plain x ≡ b → b ≡ true → At t i (Ok (Char x (i + 1)))
+    plain_piece p f r u = record { reach = i + 2; low = omega arith; high = omega arith; from = omega arith; within = omega arith; goes = λ s. let z = none_of (eqb 0x5C x) (eqb 0x22 x) (is_vertical_space x) (p ∙ f) in finds (rw (z.0, z.1, z.2) at (there_looked r u s)) }
+
+-- A plain character that is there.
+pub plain_there : (t : List ℕ) (i : ℕ) {b : Bool} → b ≡ holds is_plain (cell_at t i) → b ≡ true → At t i (Ok (Char (get_or t i 0) (i + 1)))
+plain_there t i e h = let l = cell_there is_plain t i (sym e ∙ h) in plain_piece t i l refl (holds_in is_plain t i l) (sym e ∙ h)
 
 pub at_ok : (t : List ℕ) (i : ℕ) {p x : Piece} → At t i (Ok p) → p ≡ x → At t i (Ok x)
 at_ok t i g e = subst (λ y. At t i (Ok y)) e g

@@ -1,5 +1,6 @@
 -- What the code of strings answers, in the terms of the readings.
-use Rattle.std.specs.Prelude.{◌≡◌, List, [], ℕ, ◌+◌, ◌≤◌, length, Result, Ok, Err}
+use Rattle.std.specs.Prelude.{◌≡◌, Bool, not, ◌||◌, List, [], ℕ, ◌+◌, ◌≤◌, eqb, length, Result, Ok, Err}
+use Rattle.text.specs.Classes.{is_vertical_space}
 use Rattle.text.specs.Refusals.{number_of}
 use Rattle.reading.specs.Look.{Look}
 use Rattle.reading.specs.Goes.{Goes}
@@ -13,6 +14,10 @@ use Rattle.lexer.specs.declared.string.Literal.TheVariants.{Chars, LineEnds, Tex
 use Rattle.lexer.specs.declared.string.Broken.{Broken}
 use Rattle.lexer.specs.declared.string.Piece.{Piece}
 use Rattle.lexer.specs.declared.string.Piece.TheVariants.{Char, Quote, LineEnd, TextEnd}
+
+-- a character that stands for itself in a string
+abbrev pub is_plain : ℕ → Bool
+is_plain c = not (eqb 0x5C c || eqb 0x22 c || is_vertical_space c)
 
 abbrev pub hex_of : Result ℕ Broken → spec.Hex
 hex_of (Ok v) = spec.value v

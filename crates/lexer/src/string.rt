@@ -1,10 +1,10 @@
 // String literals, in two passes: the first reads without writing, so that a string that breaks off has written nothing.
-ghost use Rattle.std.specs.Prelude.{◌≡◌, not, ◌||◌, ◌+◌, ◌-◌, ◌*◌, ◌≤◌, ◌<◌, eqb, length};
+ghost use Rattle.std.specs.Prelude.{◌≡◌, ◌||◌, ◌+◌, ◌-◌, ◌*◌, ◌≤◌, ◌<◌, eqb, length};
 ghost use Rattle.text.specs.Limits.{max_chars};
-ghost use Rattle.text.specs.Classes.{is_vertical_space};
 ghost use Rattle.lexer.specs.Text as spec;
-ghost use Rattle.lexer.specs.Pieces.{Hexed, Pieced, At, Inside, Written};
+ghost use Rattle.lexer.specs.Pieces.{is_plain, Hexed, Pieced, At, Inside, Written};
 
+use crate::look;
 use text::chars::Char;
 use text::classes::{Class, VerticalSpace};
 use text::refusal::Refusal;
@@ -192,22 +192,15 @@ fn read_piece(rest: &[u32], i: usize) -> Result<Piece, Broken>
     Ok(Piece::Char(*c, i + 1))
 }
 
-// Whether a character stands for itself, as most do.
-fn is_plain(c: u32) -> bool
-    ensures { result ≡ not (eqb 0x5C c || eqb 0x22 c || is_vertical_space c) }
-{
-    !(Char::BACKSLASH == c || Char::QUOTE == c || VerticalSpace::has(c))
-}
+// A character that stands for itself, as most do.
+struct Plain;
 
-// The same piece, with a plain character found in few steps.
-#[inline(always)]
-fn piece_at(rest: &[u32], i: usize) -> Result<Piece, Broken>
-    requires { (length rest.now ≤ max_chars) × (i ≤ length rest.now) }
-    ensures { At rest.now i result }
-{
-    match rest.get(i) {
-        Some(c) if is_plain(*c) => Ok(Piece::Char(*c, i + 1)),
-        _ => read_piece(rest, i),
+impl Class for Plain {
+    ghost class = { is_plain };
+
+    #[tactic(auto, unfolding(crate::specs::Pieces::is_plain))]
+    fn has(c: u32) -> bool {
+        !(Char::BACKSLASH == c || Char::QUOTE == c || VerticalSpace::has(c))
     }
 }
 
@@ -228,7 +221,12 @@ pub fn read_string(rest: &[u32], from: usize) -> Result<Literal, Broken>
     let mut i = from;
     let mut n = 0;
     loop {
-        match piece_at(rest, i)? {
+        if look::holds_at::<Plain>(rest, i) {
+            i += 1;
+            n += 1;
+            continue;
+        }
+        match read_piece(rest, i)? {
             Piece::Char(_, end) => {
                 i = end;
                 n += 1;
@@ -247,7 +245,16 @@ pub fn write_string(rest: &[u32], from: usize, out: &mut [u32]) -> usize
 {
     let mut i = from;
     let mut n = 0;
-    while let Ok(piece) = piece_at(rest, i) {
+    loop {
+        if look::holds_at::<Plain>(rest, i) {
+            out[n] = rest[i];
+            i += 1;
+            n += 1;
+            continue;
+        }
+        let Ok(piece) = read_piece(rest, i) else {
+            return n;
+        };
         let Piece::Char(c, end) = piece else {
             return n;
         };
@@ -255,5 +262,4 @@ pub fn write_string(rest: &[u32], from: usize, out: &mut [u32]) -> usize
         i = end;
         n += 1;
     }
-    n
 }

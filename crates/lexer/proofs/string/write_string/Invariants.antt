@@ -4,8 +4,8 @@ use lib.ListN.{length}
 use Rattle.lexer.proofs.StringLaws.{Writing}
 use Rattle.lexer.proofs.string.write_string.Given as goal
 
-abbrev pub invariant-loop-piece : goal.invariant-loop-piece
-invariant-loop-piece l = Writing l.rest l.initial.out l.from l.i l.n l.out
+abbrev pub invariant-loop-out : goal.invariant-loop-out
+invariant-loop-out l = Writing l.rest l.initial.out l.from l.i l.n l.out
 
-abbrev pub decreases-loop-piece : goal.decreases-loop-piece
-decreases-loop-piece l = length l.rest - l.i
+abbrev pub decreases-loop-out : goal.decreases-loop-out
+decreases-loop-out l = length l.rest - l.i
