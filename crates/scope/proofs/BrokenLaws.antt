@@ -1,58 +1,43 @@
 -- 01's 10, clause by clause, as the loops meet it.
-use mathlib.Core.Path.{◌≡◌, sym, ◌∙◌, ap}
-use mathlib.Core.Bool.{Bool, true, false, ◌&&◌, ◌||◌, not}
+use mathlib.Core.Path.{◌≡◌, refl, sym, ◌∙◌, ap}
+use mathlib.Core.Bool.{Bool, true, false, ◌&&◌, ◌||◌, not, false≢true}
+use mathlib.Core.Logic.{◌⊎◌, inl, inr}
 use mathlib.Core.List.{List, [], ◌∷◌}
-use Prim.Native.Nat.{ℕ, suc, ◌+◌, ◌-◌, ◌<◌, ◌≤◌}
+use Prim.Native.Nat.{ℕ, zero, suc, ◌+◌, ◌-◌, ◌<◌, ◌≤◌}
 use native.Mathlib.Omega.{arith}
 use native.Mathlib.Numerals.{add-one}
 use lib.Dec.{ltb, eqb}
-use lib.ListN.{length, get_or, drop, take, drop_of_length-le}
-use lib.Seq.{drop-cons, get_or-take, length-take-le}
-use borrow.Author.Tests.{eq-eqb, ne_eqb, lt-ltb, le-ltb, le-leb}
+use lib.ListN.{length, get_or, drop, drop_of_length-le}
+use lib.Seq.{drop-cons}
+use lib.Pointwise.{pointwise}
+use borrow.Author.Tests.{eq-eqb, ne_eqb, lt-ltb, le-ltb, ltb-false}
+use Rattle.reading.proofs.Test.{by_order, or_left, or_right}
+use Rattle.std.specs.List.{list_all}
+use Rattle.std.proofs.lemmas.Bool.Decides.{eqb_tells}
 use Rattle.text.specs.Classes.{is_scalar}
 use Rattle.names.specs.Same.{same}
-use Rattle.scope.specs.Limits.{max_name, max_depth}
+use Rattle.scope.specs.Limits.{max_depth}
 use Rattle.scope.specs.Entries.{Entry, context_kind}
 use Rattle.scope.specs.Settled.{is_repeated}
 use Rattle.scope.specs.Broken.{all_scalar, is_broken_name, has_parent, is_broken_entry, any_broken, any_repeated, any_misplaced}
-use Rattle.scope.specs.Lent.{held}
-use Rattle.scope.specs.Rows.{entry_at, earlier}
+use Rattle.scope.specs.Rows.{earlier}
+use Rattle.scope.specs.Listing.{is_broken_to, any_broken_to}
+use Rattle.scope.specs.Parented.{Parented}
+use Rattle.scope.specs.Viewed.{no_entry}
 use Rattle.scope.proofs.SearchLaws.{Step}
-use Rattle.scope.proofs.HeldLaws.{held-step, held-end, earlier_step}
+use Rattle.scope.proofs.HeldLaws.{earlier_step}
 
--- A name that is the first n cells of a row.
-module _ (a : List ℕ) (n : ℕ) (h : n ≤ length a) where
-  pub name_long : max_name < n → is_broken_name (take n a) ≡ true
-  unfolding is_broken_name
-  name_long l = rw (length-take-le n a h, lt-ltb _ _ l)
+pub all_scalar_list : (cs : List ℕ) → all_scalar cs ≡ list_all is_scalar cs
+unfolding all_scalar
+all_scalar_list [] = refl
+all_scalar_list (c ∷ cs) = ap (λ b. is_scalar c && b) (all_scalar_list cs)
 
-  pub name_scalar : n ≤ max_name → all_scalar (take n a) ≡ true → is_broken_name (take n a) ≡ false
-  unfolding is_broken_name
-  name_scalar l y = rw (length-take-le n a h, le-ltb max_name n l, y)
-
-  -- The cells before i are scalar values.
-  module _ (i : ℕ) (s : all_scalar (take n a) ≡ all_scalar (drop i (take n a))) where
-    pub scalar_end : n ≤ i → all_scalar (take n a) ≡ true
-    unfolding all_scalar
-    scalar_end g = let x : length (take n a) ≤ i = rw (length-take-le n a h) g in s ∙ rw (drop_of_length-le (take n a) x)
-
-    module _ (g : i < n) where
-      scalar_step : all_scalar (drop i (take n a)) ≡ is_scalar (get_or a i 0) && all_scalar (drop (i + 1) (take n a))
-      unfolding all_scalar
-      scalar_step = let x : i < length (take n a) = rw (length-take-le n a h) g in rw (add-one, drop-cons (take n a) i 0 x, get_or-take n a i 0 g)
-
-      pub scalar_more : is_scalar (get_or a i 0) ≡ true → all_scalar (take n a) ≡ all_scalar (drop (i + 1) (take n a))
-      scalar_more e = s ∙ scalar_step ∙ rw e
-
-      pub name_bad : n ≤ max_name → is_scalar (get_or a i 0) ≡ false → is_broken_name (take n a) ≡ true
-      unfolding is_broken_name
-      name_bad l e =
-          let y : all_scalar (take n a) ≡ false = s ∙ scalar_step ∙ rw e in
-          rw (length-take-le n a h, le-ltb max_name n l, y)
-
-pub low_scalar : (c : ℕ) → c ≤ 0xD7FF → is_scalar c ≡ true
-unfolding is_scalar
-low_scalar c h = rw (le-leb 0 c (omega arith), le-leb c 0xD7FF h)
+pub same_pointwise : (x y : List ℕ) → pointwise eqb x y ≡ same x y
+unfolding same
+same_pointwise [] [] = refl
+same_pointwise [] (b ∷ y) = refl
+same_pointwise (a ∷ x) [] = refl
+same_pointwise (a ∷ x) (b ∷ y) = ap (λ z. eqb a b && z) (same_pointwise x y)
 
 -- The parent is looked for among the earlier entries.
 module _ (e f : Entry) (fs : List Entry) where
@@ -74,110 +59,163 @@ module _ (e f : Entry) (fs : List Entry) where
       unfolding has_parent
       parent_more l = rw (eq-eqb _ _ h, ne_eqb _ _ g, le-ltb f.depth e.depth l)
 
-pub orphan_top : (d : ℕ) (p : Bool) → d ≡ 0 → ltb 0 d && p ≡ false
-orphan_top d p h = rw (le-ltb 0 d (omega arith))
+-- Where every earlier entry has its parent, that of an entry is one for whatever of its context is less deep, down to depth 1.
+parent_too : (e f : Entry) (fs : List Entry) → f.context ≡ e.context → Parented fs → 0 < e.depth → e.depth ≤ f.depth → has_parent f fs ≡ true → has_parent e fs ≡ true
+unfolding has_parent
+parent_too e f [] o p z l h = absurd (false≢true h)
+parent_too e f (g ∷ gs) o p z l h = go (eqb_tells g.context f.context) (parent_too e g gs) (parent_too e f gs)
+  where
+    go : ((eqb g.context f.context ≡ true) × (g.context ≡ f.context)) ⊎ ((eqb g.context f.context ≡ false) × (g.context ≡ f.context → ⊥))
+        → (g.context ≡ e.context → Parented gs → 0 < e.depth → e.depth ≤ g.depth → has_parent g gs ≡ true → has_parent e gs ≡ true)
+        → (f.context ≡ e.context → Parented gs → 0 < e.depth → e.depth ≤ f.depth → has_parent f gs ≡ true → has_parent e gs ≡ true)
+        → has_parent e (g ∷ gs) ≡ true
+    go (inr n) below on = absurd (false≢true (sym (parent_other f g gs n.1) ∙ h))
+    go (inl s) below on =
+        by_order g.depth e.depth
+        (λ m. by_order (suc g.depth) f.depth
+        (λ n. absurd (false≢true (sym (parent_less f g gs s.1 (λ q. absurd (omega arith)) (omega arith)) ∙ h)))
+        (λ n. parent_here e g gs (s.1 ∙ o) (omega arith) ∙ sym (parent_here f g gs s.1 (omega arith)) ∙ h))
+        (λ m. parent_more e g gs (s.1 ∙ o) (λ q. absurd (omega arith)) m ∙ by_order g.depth f.depth
+        (λ n. below (s.1 ∙ o) p.1 z m (p.0 (omega arith)))
+        (λ n. on o p.1 z l (sym (parent_more f g gs s.1 (λ q. absurd (omega arith)) n) ∙ h)))
+
+-- So an entry behind one of its context that is as deep or deeper has a parent.
+pub parent_level : (e f : Entry) (fs : List Entry) → f.context ≡ e.context → Parented (f ∷ fs) → 0 < e.depth → e.depth ≤ f.depth → has_parent e (f ∷ fs) ≡ true
+parent_level e f fs o p z l = parent_more e f fs o (λ q. absurd (omega arith)) l ∙ parent_too e f fs o p.1 z l (p.0 (omega arith))
 
 pub orphan_deep : (d : ℕ) {p q : Bool} → (d ≡ 0 → ⊥) → p ≡ q → ltb 0 d && not p ≡ not q
 orphan_deep d h e = rw (lt-ltb 0 d (omega arith), e)
 
--- One entry.
-module _ (e : Entry) (es : List Entry) where
-  pub broken_deep : max_depth < e.depth → is_broken_entry e es ≡ true
-  unfolding is_broken_entry
-  broken_deep h = rw (lt-ltb _ _ h)
+-- The entry at i, and those in front of it.
+module _ (es : List Entry) (i : ℕ) where
+  pub entries_end : length es ≤ i → drop i es ≡ []
+  entries_end h = drop_of_length-le es h
 
-  module _ (g : e.depth ≤ max_depth) where
-    pub broken_kind : context_kind < e.kind → is_broken_entry e es ≡ true
-    unfolding is_broken_entry
-    broken_kind h = rw (le-ltb max_depth e.depth g, lt-ltb _ _ h)
+  module _ {e : Entry} (at : e ≡ get_or es i no_entry) (h : i < length es) where
+    pub entry_step : drop i es ≡ e ∷ drop (i + 1) es
+    entry_step = rw (add-one, drop-cons es i no_entry h, at)
 
-    module _ (h : e.kind ≤ context_kind) {o : Bool} (q : o ≡ (ltb 0 e.depth && not (has_parent e es))) where
-      pub broken_orphan : o ≡ true → is_broken_entry e es ≡ true
-      unfolding is_broken_entry
-      broken_orphan t = rw (le-ltb max_depth e.depth g, le-ltb context_kind e.kind h, sym q ∙ t)
+    pub earlier_more : earlier (i + 1) es [] ≡ e ∷ earlier i es []
+    earlier_more = rw add-one (earlier_step i es [] e (drop (i + 1) es) entry_step)
 
-      pub broken_name : o ≡ false → {b : Bool} → b ≡ is_broken_name e.name → b ≡ is_broken_entry e es
-      unfolding is_broken_entry
-      broken_name t p = p ∙ rw (le-ltb max_depth e.depth g, le-ltb context_kind e.kind h, sym q ∙ t)
+pub earlier_one : (es : List Entry) (i : ℕ) {f : Entry} → f ≡ get_or es (i - 1) no_entry → 0 < i → i ≤ length es → earlier i es [] ≡ f ∷ earlier (i - 1) es []
+earlier_one es i at z h = let q : i - 1 + 1 ≡ i = omega arith in rw q at (earlier_more es (i - 1) at (omega arith))
 
--- The walk of the entry at i, at the j entries before.
-module _ (ss ns : List (List ℕ)) (k i j : ℕ) where
-  pub orphan_step : i < k → k ≤ length ss → k ≤ length ns → 0 < j → j ≤ i
-      → has_parent (entry_at ss ns i) (earlier j (held k ss ns) []) ≡ has_parent (entry_at ss ns i) (entry_at ss ns (j - 1) ∷ earlier (j - 1) (held k ss ns) [])
-  orphan_step g h l z m =
-      let n : j - 1 < k = omega arith in
-      let s : j ≡ suc (j - 1) = omega arith in
-      ap (has_parent (entry_at ss ns i)) (ap (λ x. earlier x (held k ss ns) []) s ∙ earlier_step (j - 1) (held k ss ns) [] (entry_at ss ns (j - 1)) _ (held-step (j - 1) k ss ns n h l))
-
-  pub orphan_none : j ≡ 0 → has_parent (entry_at ss ns i) (earlier j (held k ss ns) []) ≡ false
+-- The parent of e, looked for in front of its place i.
+module _ (es : List Entry) (i : ℕ) (e : Entry) where
+  pub orphan_first : i ≡ 0 → has_parent e (earlier i es []) ≡ false
   unfolding has_parent earlier
-  orphan_none z = rw z
+  orphan_first z = rw z
 
--- The loops over the entries.
-module _ (ss ns : List (List ℕ)) (k i : ℕ) (h : k ≤ length ss) (j : k ≤ length ns) where
-  pub earlier-held : i < k → earlier (i + 1) (held k ss ns) [] ≡ entry_at ss ns i ∷ earlier i (held k ss ns) []
-  earlier-held g = rw add-one (earlier_step i (held k ss ns) [] (entry_at ss ns i) _ (held-step i k ss ns g h j))
+  module _ (f : Entry) (at : f ≡ get_or es (i - 1) no_entry) (z : 0 < i) (h : i ≤ length es) where
+    front : earlier i es [] ≡ f ∷ earlier (i - 1) es []
+    front = earlier_one es i at z h
 
-  pub broken_step : i < k → Step (any_broken (earlier i (held k ss ns) []) (drop i (held k ss ns))) (is_broken_entry (entry_at ss ns i) (earlier i (held k ss ns) []))
-      (any_broken (earlier (i + 1) (held k ss ns) []) (drop (i + 1) (held k ss ns)))
-  unfolding any_broken
-  broken_step g = record { parts = rw (earlier-held g, add-one, held-step i k ss ns g h j) }
+    pub before_other : (f.context ≡ e.context → ⊥) → has_parent e (earlier i es []) ≡ false
+    before_other o = rw front (parent_other e f _ o)
 
-  pub broken_end : (before : List Entry) → k ≤ i → any_broken before (drop i (held k ss ns)) ≡ false
-  unfolding any_broken
-  broken_end before g = rw (held-end i k ss ns g h j)
+    module _ (o : f.context ≡ e.context) where
+      pub before_level : Parented (earlier i es []) → 0 < e.depth → e.depth ≤ f.depth → has_parent e (earlier i es []) ≡ true
+      before_level p d l = rw front (parent_level e f _ o (rw front at p) d l)
 
-  pub repeated_step : i < k → Step (any_repeated (drop i (held k ss ns))) (is_repeated (entry_at ss ns i) (drop (i + 1) (held k ss ns))) (any_repeated (drop (i + 1) (held k ss ns)))
+      pub before_less : suc f.depth < e.depth → has_parent e (earlier i es []) ≡ false
+      before_less l = rw front (parent_less e f _ o (λ q. absurd (omega arith)) (omega arith))
+
+      pub before_here : suc f.depth ≡ e.depth → has_parent e (earlier i es []) ≡ eqb f.kind context_kind
+      before_here l = rw front (parent_here e f _ o l)
+
+-- One entry that is not broken more has its parent.
+pub parented_more : (most : ℕ) (es : List Entry) (i : ℕ) {e : Entry} → e ≡ get_or es i no_entry → i < length es → is_broken_to most e (earlier i es []) ≡ false → Parented (earlier i es []) → Parented (earlier (i + 1) es [])
+unfolding is_broken_to
+parented_more most es i {e} at h b p = rw (earlier_more es i at h) (parent, p)
+  where
+    parent : 0 < e.depth → has_parent e (earlier i es []) ≡ true
+    parent z = go (has_parent e (earlier i es [])) (rw (lt-ltb 0 e.depth z) at orphan)
+      where
+        orphan : (ltb 0 e.depth && not (has_parent e (earlier i es []))) ≡ false
+        orphan =
+            let x = ltb most e.depth in
+            let y = ltb context_kind e.kind in
+            let o = ltb 0 e.depth && not (has_parent e (earlier i es [])) in
+            or_right (x || y) o (or_left (x || y || o) (is_broken_name e.name) b)
+
+        go : (t : Bool) → not t ≡ false → t ≡ true
+        go true q = refl
+        go false q = absurd (false≢true (sym q))
+
+-- The loops, at the entry at i.
+module _ (es : List Entry) (i : ℕ) {e : Entry} (at : e ≡ get_or es i no_entry) (h : i < length es) where
+  pub broken_step : (most : ℕ) → Step (any_broken_to most (earlier i es []) (drop i es)) (is_broken_to most e (earlier i es [])) (any_broken_to most (earlier (i + 1) es []) (drop (i + 1) es))
+  unfolding any_broken_to
+  broken_step most = record { parts = rw (earlier_more es i at h, entry_step es i at h) }
+
+  pub repeated_step : Step (any_repeated (drop i es)) (is_repeated e (drop (i + 1) es)) (any_repeated (drop (i + 1) es))
   unfolding any_repeated
-  repeated_step g = record { parts = rw (add-one, held-step i k ss ns g h j) }
+  repeated_step = record { parts = rw (entry_step es i at h) }
 
-  pub repeated_end : k ≤ i → any_repeated (drop i (held k ss ns)) ≡ false
-  unfolding any_repeated
-  repeated_end g = rw (held-end i k ss ns g h j)
-
-  pub misplaced_end : (n low : ℕ) → k ≤ i → any_misplaced n low (drop i (held k ss ns)) ≡ false
-  unfolding any_misplaced
-  misplaced_end n low g = rw (held-end i k ss ns g h j)
-
-  module _ (g : i < k) (n low : ℕ) where
-    pub misplaced_low : get_or (get_or ss i []) 0 0 < low → any_misplaced n low (drop i (held k ss ns)) ≡ true
+  module _ (n low : ℕ) where
+    pub misplaced_here : (e.context < low) ⊎ ((low ≤ e.context) × (n < e.context)) → any_misplaced n low (drop i es) ≡ true
     unfolding any_misplaced
-    misplaced_low l = rw (held-step i k ss ns g h j, lt-ltb _ _ l)
+    misplaced_here (inl l) = rw (entry_step es i at h, lt-ltb _ _ l)
+    misplaced_here (inr m) = rw (entry_step es i at h, le-ltb e.context low m.0, lt-ltb _ _ m.1)
 
-    module _ (l : low ≤ get_or (get_or ss i []) 0 0) where
-      pub misplaced_high : n < get_or (get_or ss i []) 0 0 → any_misplaced n low (drop i (held k ss ns)) ≡ true
-      unfolding any_misplaced
-      misplaced_high m = rw (held-step i k ss ns g h j, le-ltb (get_or (get_or ss i []) 0 0) low l, lt-ltb _ _ m)
+    pub misplaced_more : low ≤ e.context → e.context ≤ n → any_misplaced n low (drop i es) ≡ any_misplaced n e.context (drop (i + 1) es)
+    unfolding any_misplaced
+    misplaced_more l m = rw (entry_step es i at h, le-ltb e.context low l, le-ltb n e.context m)
 
-      pub misplaced_more : get_or (get_or ss i []) 0 0 ≤ n → any_misplaced n low (drop i (held k ss ns)) ≡ any_misplaced n (get_or (get_or ss i []) 0 0) (drop (i + 1) (held k ss ns))
-      unfolding any_misplaced
-      misplaced_more m = rw (add-one, held-step i k ss ns g h j, le-ltb (get_or (get_or ss i []) 0 0) low l, le-ltb n (get_or (get_or ss i []) 0 0) m)
-
-  -- The search for the name of e behind it.
-  module _ (e : Entry) where
-    pub again_end : k ≤ i → is_repeated e (drop i (held k ss ns)) ≡ false
+  -- The search for the name of f.
+  module _ (f : Entry) {b : Bool} (q : b ≡ (not (eqb e.context f.context) || ltb e.depth f.depth)) where
+    pub again_ends : b ≡ true → is_repeated f (drop i es) ≡ false
     unfolding is_repeated
-    again_end g = rw (held-end i k ss ns g h j)
+    again_ends t = rw (entry_step es i at h, sym q ∙ t)
 
-    module _ (g : i < k) {b : Bool} (q : b ≡ (not (eqb (entry_at ss ns i).context e.context) || ltb (entry_at ss ns i).depth e.depth)) where
-      pub again_ends : b ≡ true → is_repeated e (drop i (held k ss ns)) ≡ false
-      unfolding is_repeated
-      again_ends t = rw (held-step i k ss ns g h j, sym q ∙ t)
+    pub again_step : b ≡ false → Step (is_repeated f (drop i es)) (eqb e.depth f.depth && same e.name f.name) (is_repeated f (drop (i + 1) es))
+    unfolding is_repeated
+    again_step t = record { parts = rw (entry_step es i at h, sym q ∙ t) }
 
-      pub again_step : b ≡ false → Step (is_repeated e (drop i (held k ss ns))) (eqb (entry_at ss ns i).depth e.depth && same (entry_at ss ns i).name e.name) (is_repeated e (drop (i + 1) (held k ss ns)))
-      unfolding is_repeated
-      again_step t = record { parts = rw (add-one, held-step i k ss ns g h j, sym q ∙ t) }
+-- Their ends.
+module _ (es : List Entry) (i : ℕ) (h : length es ≤ i) where
+  pub broken_end : (most : ℕ) (before : List Entry) → any_broken_to most before (drop i es) ≡ false
+  unfolding any_broken_to
+  broken_end most before = rw (entries_end es i h)
 
-module _ (a b c d : ℕ) where
-  pub ends_other : (a ≡ b → ⊥) → true ≡ (not (eqb a b) || ltb c d)
-  ends_other h = rw (ne_eqb a b h)
+  pub repeated_end : any_repeated (drop i es) ≡ false
+  unfolding any_repeated
+  repeated_end = rw (entries_end es i h)
 
-  pub ends_depth : a ≡ b → ltb c d ≡ (not (eqb a b) || ltb c d)
-  ends_depth h = rw (eq-eqb a b h)
+  pub misplaced_end : (n low : ℕ) → any_misplaced n low (drop i es) ≡ false
+  unfolding any_misplaced
+  misplaced_end n low = rw (entries_end es i h)
 
-module _ (a b : ℕ) (x y : List ℕ) where
-  pub alike_other : (a ≡ b → ⊥) → false ≡ (eqb a b && same x y)
-  alike_other h = rw (ne_eqb a b h)
+  pub again_end : (f : Entry) → is_repeated f (drop i es) ≡ false
+  unfolding is_repeated
+  again_end f = rw (entries_end es i h)
 
-  pub alike_depth : {r : Bool} → a ≡ b → r ≡ same x y → r ≡ (eqb a b && same x y)
-  alike_depth h q = q ∙ rw (eq-eqb a b h)
+-- The entries of a scope go down to the greatest depth.
+pub broken_entry : (e : Entry) (before : List Entry) → is_broken_entry e before ≡ is_broken_to max_depth e before
+unfolding is_broken_entry is_broken_to
+broken_entry e before = refl
+
+pub broken_all : (before es : List Entry) → any_broken before es ≡ any_broken_to max_depth before es
+unfolding any_broken any_broken_to
+broken_all before [] = refl
+broken_all before (e ∷ es) = rw (broken_entry e before, broken_all (e ∷ before) es)
+
+-- What an entry that is not broken keeps to.
+pub record Ranged (most : ℕ) (e : Entry) : Type 0 where
+  pub shallow : e.depth ≤ most
+  pub kind : e.kind ≤ context_kind
+  pub named : is_broken_name e.name ≡ false
+
+pub ranged : (most : ℕ) (before es : List Entry) → any_broken_to most before es ≡ false → (i : ℕ) → i < length es → Ranged most (get_or es i no_entry)
+unfolding any_broken_to is_broken_to
+ranged most before [] h i l = absurd (omega arith)
+ranged most before (e ∷ es) h zero l =
+    let d = ltb most e.depth in
+    let k = ltb context_kind e.kind in
+    let o = ltb 0 e.depth && not (has_parent e before) in
+    let n = is_broken_name e.name in
+    let b = or_left (is_broken_to most e before) (any_broken_to most (e ∷ before) es) h in
+    let c = or_left (d || k) o (or_left (d || k || o) n b) in
+    record { shallow = ltb-false most e.depth (or_left d k c); kind = ltb-false context_kind e.kind (or_right d k c); named = or_right (d || k || o) n b }
+ranged most before (e ∷ es) h (suc i) l = ranged most (e ∷ before) es (or_right (is_broken_to most e before) (any_broken_to most (e ∷ before) es) h) i (omega arith)

@@ -4,15 +4,17 @@ use mathlib.Core.List.{List, [], ◌∷◌}
 use Prim.Native.Nat.{ℕ, zero, suc, ◌+◌, ◌-◌, ◌<◌, ◌≤◌}
 use native.Mathlib.Omega.{arith}
 use lib.Dec.{ltb}
-use lib.ListN.{length, get_or, drop, drop_of_length-le}
+use native.Mathlib.Numerals.{add-one}
+use lib.ListN.{length, get_or, drop, take, drop_of_length-le}
 use lib.Seq.{drop-cons}
 use borrow.Author.Tests.{ltb-false}
-use mathlib.Core.Bool.{false}
+use mathlib.Core.Bool.{false, ◌||◌}
 use Rattle.reading.proofs.Test.{or_left, or_right}
 use Rattle.scope.specs.Limits.{max_name}
 use Rattle.scope.specs.Entries.{Entry}
-use Rattle.scope.specs.Lent.{held, any_too_long}
-use Rattle.scope.specs.Rows.{entry_at, earlier}
+use Rattle.scope.specs.Lent.{entry_of, held, any_too_long}
+use Rattle.scope.specs.Rows.{entry_at, all_held, earlier}
+use Rattle.scope.specs.Viewed.{no_entry}
 use Rattle.scope.proofs.SearchLaws.{Step}
 
 pub held-length : (k : ℕ) (ss ns : List (List ℕ)) → k ≤ length ss → k ≤ length ns → length (held k ss ns) ≡ k
@@ -55,18 +57,46 @@ short_at (suc k) [] i e h l = absurd (omega arith)
 short_at (suc k) (s ∷ ss) zero e h l = ltb-false max_name (get_or s 3 0) (or_left (ltb max_name (get_or s 3 0)) (any_too_long k ss) e)
 short_at (suc k) (s ∷ ss) (suc i) e h l = short_at k ss i (or_right (ltb max_name (get_or s 3 0)) (any_too_long k ss) e) (omega arith) (omega arith)
 
-module _ (ss : List (List ℕ)) (from k i : ℕ) where
-  pub too_long_step : from + k ≤ length ss → i < k → Step (any_too_long (k - i) (drop (from + i) ss)) (ltb max_name (get_or (get_or ss (from + i) []) 3 0)) (any_too_long (k - (i + 1)) (drop (from + (i + 1)) ss))
+module _ (ss : List (List ℕ)) (i : ℕ) where
+  pub too_long_step : i < length ss → Step (any_too_long (length ss - i) (drop i ss)) (ltb max_name (get_or (get_or ss i []) 3 0)) (any_too_long (length ss - (i + 1)) (drop (i + 1) ss))
   unfolding any_too_long
-  too_long_step h l =
-      let z : k - i ≡ suc (k - (i + 1)) = omega arith in
-      let w : from + (i + 1) ≡ suc (from + i) = omega arith in
-      let u : from + i < length ss = omega arith in
-      record { parts = rw (z, w, drop-cons ss (from + i) [] u) }
+  too_long_step h =
+      let z : length ss - i ≡ suc (length ss - (i + 1)) = omega arith in
+      record { parts = rw (z, add-one, drop-cons ss i [] h) }
 
-  pub too_long_end : k ≤ i → any_too_long (k - i) (drop (from + i) ss) ≡ false
+  pub too_long_end : length ss ≤ i → any_too_long (length ss - i) (drop i ss) ≡ false
   unfolding any_too_long
-  too_long_end h = let z : k - i ≡ 0 = omega arith in rw z
+  too_long_end h = let z : length ss - i ≡ 0 = omega arith in rw z
 
-pub too_long_start : (ss : List (List ℕ)) (from k : ℕ) → any_too_long k (drop from ss) ≡ any_too_long (k - 0) (drop (from + 0) ss)
-too_long_start ss from k = let z : k - 0 ≡ k = omega arith in let w : from + 0 ≡ from = omega arith in rw (z, w)
+pub too_long_start : (ss : List (List ℕ)) → any_too_long (length ss) ss ≡ any_too_long (length ss - 0) (drop 0 ss)
+too_long_start ss = let z : length ss - 0 ≡ length ss = omega arith in rw z
+
+-- Of a front of the rows.
+pub too_long_take : (k : ℕ) (ss : List (List ℕ)) → k ≤ length ss → any_too_long (length (take k ss)) (take k ss) ≡ any_too_long k ss
+unfolding any_too_long
+too_long_take zero ss h = refl
+too_long_take (suc k) [] h = absurd (omega arith)
+too_long_take (suc k) (s ∷ ss) h = ap (λ b. ltb max_name (get_or s 3 0) || b) (too_long_take k ss (omega arith))
+
+pub held_take : (k : ℕ) (ss ns : List (List ℕ)) → k ≤ length ss → all_held (take k ss) (take k ns) ≡ held k ss ns
+unfolding held
+held_take zero ss ns h = refl
+held_take (suc k) [] ns h = absurd (omega arith)
+held_take (suc k) (s ∷ ss) [] h = refl
+held_take (suc k) (s ∷ ss) (n ∷ ns) h = ap (λ es. entry_of s n ∷ es) (held_take k ss ns (omega arith))
+
+-- The entry of paired rows at i.
+pub held_at : (i k : ℕ) (ss ns : List (List ℕ)) → i < k → k ≤ length ss → k ≤ length ns → get_or (held k ss ns) i no_entry ≡ entry_at ss ns i
+unfolding held
+held_at i zero ss ns g h j = absurd (omega arith)
+held_at i (suc k) [] ns g h j = absurd (omega arith)
+held_at i (suc k) (s ∷ ss) [] g h j = absurd (omega arith)
+held_at zero (suc k) (s ∷ ss) (n ∷ ns) g h j = refl
+held_at (suc i) (suc k) (s ∷ ss) (n ∷ ns) g h j = held_at i k ss ns (omega arith) (omega arith) (omega arith)
+
+module _ (ss ns : List (List ℕ)) (p : length ss ≡ length ns) where
+  pub all_length : length (all_held ss ns) ≡ length ss
+  all_length = held-length (length ss) ss ns (omega arith) (omega arith)
+
+  pub all_at : (i : ℕ) → i < length ss → get_or (all_held ss ns) i no_entry ≡ entry_at ss ns i
+  all_at i h = held_at i (length ss) ss ns h (omega arith) (omega arith)

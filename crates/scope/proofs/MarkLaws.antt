@@ -6,27 +6,26 @@ use Prim.Native.Nat.{ℕ, zero, suc, ◌+◌, ◌-◌, ◌*◌, ◌%◌, ◌<◌
 use native.Mathlib.Omega.{arith}
 use native.Mathlib.Numerals.{add-one}
 use lib.Dec.{ltb, eqb}
-use lib.ListN.{length, get_or, set, drop, take, drop_of_length-le, length-set}
-use lib.Seq.{drop-cons, get_or-take, length-take-le, get_or-set_same}
+use lib.ListN.{length, get_or, set, drop, drop_of_length-le, length-set}
+use lib.Seq.{drop-cons, get_or-set_same}
 use borrow.Author.Tests.{eqb-true}
 use Rattle.names.specs.Same.{same}
 use Rattle.scope.specs.Mark.{mark_from, mark_of}
 use Rattle.scope.specs.Entries.{Entry}
 use Rattle.scope.specs.Settled.{is_repeated}
 use Rattle.scope.specs.Broken.{any_repeated}
-use Rattle.scope.specs.Lent.{held}
-use Rattle.scope.specs.Rows.{entry_at}
-use Rattle.scope.proofs.HeldLaws.{held-step, held-end}
+use Rattle.scope.specs.Viewed.{no_entry}
+use Rattle.scope.proofs.BrokenLaws.{entry_step}
 
--- The mark of the first n cells of a row, cell by cell.
-module _ (a : List ℕ) (n i m : ℕ) (h : n ≤ length a) where
-  pub mark_end : n ≤ i → mark_from m (drop i (take n a)) ≡ m
+-- The mark of a name, cell by cell.
+module _ (a : List ℕ) (i m : ℕ) where
+  pub mark_end : length a ≤ i → mark_from m (drop i a) ≡ m
   unfolding mark_from
-  mark_end g = let x : length (take n a) ≤ i = rw (length-take-le n a h) g in rw (drop_of_length-le (take n a) x)
+  mark_end g = rw (drop_of_length-le a g)
 
-  pub mark_step : i < n → mark_from m (drop i (take n a)) ≡ mark_from ((31 * m + get_or a i 0 % 8192) % 8192) (drop (i + 1) (take n a))
+  pub mark_step : i < length a → mark_from m (drop i a) ≡ mark_from ((31 * m + get_or a i 0 % 8192) % 8192) (drop (i + 1) a)
   unfolding mark_from
-  mark_step g = let x : i < length (take n a) = rw (length-take-le n a h) g in rw (add-one, drop-cons (take n a) i 0 x, get_or-take n a i 0 g)
+  mark_step g = rw (add-one, drop-cons a i 0 g)
 
 same_mark : (m : ℕ) (x y : List ℕ) → same x y ≡ true → mark_from m x ≡ mark_from m y
 unfolding same mark_from
@@ -39,12 +38,6 @@ same_mark m (a ∷ x) (b ∷ y) h = go (eqb a b) refl h (same_mark ((31 * m + b 
         → mark_from ((31 * m + a % 8192) % 8192) x ≡ mark_from ((31 * m + b % 8192) % 8192) y
     go true e k rest = rw (eqb-true a b e) (rest k)
     go false e k rest = absurd (false≢true k)
-
-pub and_taken : (t a : Bool) {b : Bool} → t ≡ true → b ≡ a → b ≡ (t && a)
-and_taken t a h e = e ∙ rw h
-
-pub and_free : (t a : Bool) → t ≡ false → false ≡ (t && a)
-and_free t a h = rw h
 
 -- Each of the names has left its mark.
 unfoldable pub Marked : List Bool → List Entry → Type 0
@@ -92,40 +85,37 @@ pub record Passed (t : List Bool) (es : List Entry) : Type 0 where
   pub none : any_repeated es ≡ false
   pub marked : Marked t es
 
-pub passed_start : (t : List Bool) (k : ℕ) (ss ns : List (List ℕ)) → length t ≡ 8192 → k ≤ length ss → k ≤ length ns → Passed t (drop k (held k ss ns))
+pub passed_start : (t : List Bool) (es : List Entry) (i : ℕ) → length t ≡ 8192 → length es ≤ i → Passed t (drop i es)
 unfolding any_repeated Marked
-passed_start t k ss ns e h j = let z : k ≤ k = omega arith in rw (held-end k k ss ns z h j) (record { size = e; none = refl; marked = tt })
+passed_start t es i e h = rw (drop_of_length-le es h) (record { size = e; none = refl; marked = tt })
 
--- One entry more, with the mark m of its name: b says whether the name stands again, looked for only where the mark is taken.
-module _ (t : List Bool) (e : Entry) (es : List Entry) (p : Passed t es) (m : ℕ) (q : m ≡ mark_of e.name) {b : Bool} (r : b ≡ (get_or t m false && is_repeated e es)) where
-  again : b ≡ is_repeated e es
-  again = go (get_or t m false) refl r
-    where
-      go : (a : Bool) → get_or t m false ≡ a → b ≡ (a && is_repeated e es) → b ≡ is_repeated e es
-      go true z y = y
-      go false z y = y ∙ sym (unmarked t e es p.marked (ap (λ k. get_or t k false) (sym q) ∙ z))
+-- One entry more, with the mark m of its name: whether the name stands again is asked only where the mark is taken.
+passed_one : (t : List Bool) (e : Entry) (es : List Entry) (p : Passed t es) (m : ℕ) → m ≡ mark_of e.name → m < 8192 → (get_or t m false ≡ true → is_repeated e es ≡ false) → Passed (set t m true) (e ∷ es)
+unfolding any_repeated Marked
+passed_one t e es p m q l f =
+    let z : m < length t = rw p.size l in
+    record {
+      size = length-set t m true ∙ p.size;
+      none = rw (alone (get_or t m false) refl) p.none;
+      marked = (ap (λ k. get_or (set t m true) k false) (sym q) ∙ get_or-set_same t m true false z, still_marked t m es p.marked);
+    }
+  where
+    alone : (a : Bool) → get_or t m false ≡ a → is_repeated e es ≡ false
+    alone true z = f z
+    alone false z = unmarked t e es p.marked (ap (λ k. get_or t k false) (sym q) ∙ z)
 
-  pub passed_twice : b ≡ true → any_repeated (e ∷ es) ≡ true
+-- The entry before i.
+module _ (es : List Entry) (i : ℕ) {e : Entry} (at : e ≡ get_or es (i - 1) no_entry) (z : 0 < i) (h : i ≤ length es) where
+  before : drop (i - 1) es ≡ e ∷ drop i es
+  before = let q : i - 1 + 1 ≡ i = omega arith in rw q at (entry_step es (i - 1) at (omega arith))
+
+  pub passed_twice : is_repeated e (drop (i - 1 + 1) es) ≡ true → any_repeated es ≡ true
   unfolding any_repeated
-  passed_twice f = rw (sym again ∙ f)
+  passed_twice r =
+      let q : i - 1 + 1 ≡ i = omega arith in
+      repeated_below (i - 1) es (rw (before, rw q at r))
 
-  pub passed_more : m < 8192 → b ≡ false → Passed (set t m true) (e ∷ es)
-  unfolding any_repeated Marked
-  passed_more l f =
-      let z : m < length t = rw p.size l in
-      record {
-        size = length-set t m true ∙ p.size;
-        none = rw (sym again ∙ f) p.none;
-        marked = (ap (λ k. get_or (set t m true) k false) (sym q) ∙ get_or-set_same t m true false z, still_marked t m es p.marked);
-      }
-
--- The entry before i, in the rows.
-module _ (ss ns : List (List ℕ)) (k i : ℕ) (h : k ≤ length ss) (j : k ≤ length ns) (l : 0 < i) (g : i ≤ k) where
-  pub before : drop (i - 1) (held k ss ns) ≡ entry_at ss ns (i - 1) ∷ drop i (held k ss ns)
-  before =
-      let n : i - 1 < k = omega arith in
-      let s : suc (i - 1) ≡ i = omega arith in
-      held-step (i - 1) k ss ns n h j ∙ ap (λ x. entry_at ss ns (i - 1) ∷ drop x (held k ss ns)) s
-
-  pub twice : any_repeated (entry_at ss ns (i - 1) ∷ drop i (held k ss ns)) ≡ true → any_repeated (held k ss ns) ≡ true
-  twice f = repeated_below (i - 1) (held k ss ns) (ap any_repeated before ∙ f)
+  pub passed_more : {t : List Bool} (m : ℕ) → Passed t (drop i es) → m ≡ mark_of e.name → m < 8192 → (get_or t m false ≡ true → is_repeated e (drop (i - 1 + 1) es) ≡ false) → Passed (set t m true) (drop (i - 1) es)
+  passed_more {t} m p k l f =
+      let q : i - 1 + 1 ≡ i = omega arith in
+      rw before (passed_one t e (drop i es) p m k l (rw q at f))

@@ -1,68 +1,38 @@
--- The parsed names, by index.
-use mathlib.Core.Path.{◌≡◌, refl, sym, ◌∙◌}
-use mathlib.Core.Bool.{Bool, true, false}
-use mathlib.Core.List.{List, [], ◌∷◌, map}
-use Prim.Native.Nat.{ℕ, zero, suc, ◌+◌, ◌<◌, ◌≤◌}
-use native.Mathlib.Omega.{arith}
+-- The names of entries, by index.
+use mathlib.Core.Path.{◌≡◌}
+use mathlib.Core.Bool.{false, ◌||◌}
+use mathlib.Core.List.{List, ◌∷◌, map}
+use Prim.Native.Nat.{ℕ, ◌+◌, ◌<◌, ◌≤◌}
 use native.Mathlib.Numerals.{add-one}
-use lib.ListN.{length, get_or, drop, length-drop}
-use lib.Seq.{get_or-drop}
+use lib.ListN.{length, get_or, drop}
 use Rattle.names.specs.Same.{same, member}
-use Rattle.scope.specs.Limits.{max_entries, max_name}
+use Rattle.scope.specs.Entries.{Entry}
 use Rattle.scope.specs.Broken.{is_broken_name, is_broken_set}
-use Rattle.scope.specs.Lent.{held, any_too_long}
-use Rattle.scope.specs.Rows.{entry_at, parsed_names}
+use Rattle.scope.specs.Viewed.{no_entry}
 use Rattle.scope.proofs.SearchLaws.{Step}
-use Rattle.scope.proofs.HeldLaws.{held-step, held-end, short_at}
+use Rattle.scope.proofs.ListLaws.{map-step, map-end}
 
-pub drop-map : {A B : Type 0} (f : A → B) (i : ℕ) (l : List A) → drop i (map f l) ≡ map f (drop i l)
-drop-map f zero l = refl
-drop-map f (suc i) [] = refl
-drop-map f (suc i) (x ∷ l) = drop-map f i l
+abbrev names : List Entry → List (List ℕ)
+names es = map (λ e. e.name) es
 
-module _ (ss ns : List (List ℕ)) (k i : ℕ) (h : max_entries + k ≤ length ss) (j : max_entries + k ≤ length ns) where
-  slots_behind : k ≤ length (drop max_entries ss)
-  slots_behind = rw length-drop (omega arith)
+module _ (es : List Entry) (i : ℕ) where
+  module _ (h : i < length es) where
+    names_step : drop i (names es) ≡ (get_or es i no_entry).name ∷ drop (i + 1) (names es)
+    names_step = rw add-one (map-step (λ e. e.name) no_entry es i h)
 
-  names_behind : k ≤ length (drop max_entries ns)
-  names_behind = rw length-drop (omega arith)
-
-  pub parsed_end : k ≤ i → drop i (parsed_names k ss ns) ≡ []
-  parsed_end g = drop-map (λ e. e.name) i (held k (drop max_entries ss) (drop max_entries ns)) ∙ rw (held-end i k (drop max_entries ss) (drop max_entries ns) g slots_behind names_behind)
-
-  module _ (g : i < k) where
-    pub parsed_step : drop i (parsed_names k ss ns) ≡ (entry_at ss ns (max_entries + i)).name ∷ drop (i + 1) (parsed_names k ss ns)
-    parsed_step = drop-map (λ e. e.name) i (held k (drop max_entries ss) (drop max_entries ns))
-        ∙ rw (held-step i k (drop max_entries ss) (drop max_entries ns) g slots_behind names_behind, get_or-drop max_entries ss i [], get_or-drop max_entries ns i [], add-one, drop-map (λ e. e.name) (suc i) (held k (drop max_entries ss) (drop max_entries ns)))
-
-    pub short_parsed : any_too_long k (drop max_entries ss) ≡ false → get_or (get_or ss (max_entries + i) []) 3 0 ≤ max_name
-    short_parsed e = rw (get_or-drop max_entries ss i []) at (short_at k (drop max_entries ss) i e slots_behind g)
-
-  -- A name among them.
-  module _ (x : List ℕ) where
-    pub member-end : k ≤ i → member x (drop i (parsed_names k ss ns)) ≡ false
+    pub member-step : (x : List ℕ) → Step (member x (drop i (names es))) (same (get_or es i no_entry).name x) (member x (drop (i + 1) (names es)))
     unfolding member
-    member-end g = rw (parsed_end g)
+    member-step x = record { parts = rw names_step }
 
-    pub member-step : i < k → Step (member x (drop i (parsed_names k ss ns))) (same (entry_at ss ns (max_entries + i)).name x) (member x (drop (i + 1) (parsed_names k ss ns)))
-    unfolding member
-    member-step g = record { parts = rw (parsed_step g) }
-
-  -- The set.
-  pub set-end : k ≤ i → is_broken_set (drop i (parsed_names k ss ns)) ≡ false
-  unfolding is_broken_set
-  set-end g = rw (parsed_end g)
-
-  module _ (g : i < k) {b : Bool} (p : b ≡ is_broken_name (entry_at ss ns (max_entries + i)).name) where
-    pub set_broken : b ≡ true → is_broken_set (drop i (parsed_names k ss ns)) ≡ true
+    pub set_step : {x : List ℕ} → x ≡ (get_or es i no_entry).name → Step (is_broken_set (drop i (names es))) (is_broken_name x || member x (drop (i + 1) (names es))) (is_broken_set (drop (i + 1) (names es)))
     unfolding is_broken_set
-    set_broken t = rw (parsed_step g, sym p ∙ t)
+    set_step q = record { parts = rw (names_step, q) }
 
-    module _ (t : b ≡ false) {m : Bool} (q : m ≡ member (entry_at ss ns (max_entries + i)).name (drop (i + 1) (parsed_names k ss ns))) where
-      pub set_twice : m ≡ true → is_broken_set (drop i (parsed_names k ss ns)) ≡ true
-      unfolding is_broken_set
-      set_twice u = rw (parsed_step g, sym p ∙ t, sym q ∙ u)
+  module _ (h : length es ≤ i) where
+    pub member-end : (x : List ℕ) → member x (drop i (names es)) ≡ false
+    unfolding member
+    member-end x = rw (map-end (λ e. e.name) es i h)
 
-      pub set_more : m ≡ false → is_broken_set (drop i (parsed_names k ss ns)) ≡ is_broken_set (drop (i + 1) (parsed_names k ss ns))
-      unfolding is_broken_set
-      set_more u = rw (parsed_step g, sym p ∙ t, sym q ∙ u)
+    pub set-end : is_broken_set (drop i (names es)) ≡ false
+    unfolding is_broken_set
+    set-end = rw (map-end (λ e. e.name) es i h)

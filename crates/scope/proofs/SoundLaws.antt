@@ -1,15 +1,18 @@
 -- What a scope that is not broken is known to have, and the check's clauses in order.
-use mathlib.Core.Path.{◌≡◌, sym, ◌∙◌}
+use mathlib.Core.Path.{◌≡◌, refl, sym, ◌∙◌}
 use mathlib.Core.Bool.{Bool, true, false, ◌||◌, not}
-use mathlib.Core.List.{List}
-use Prim.Native.Nat.{ℕ, ◌+◌, ◌<◌, ◌≤◌}
+use mathlib.Core.List.{List, map}
+use Prim.Native.Nat.{ℕ, ◌+◌, ◌-◌, ◌≤◌}
+use native.Mathlib.Omega.{arith}
 use lib.Dec.{ltb}
-use lib.ListN.{length, drop}
-use borrow.Author.Tests.{lt-ltb, le-ltb, ltb-false}
+use lib.ListN.{length, take, drop, length-drop}
+use borrow.Author.Tests.{ltb-false}
 use Rattle.reading.proofs.Test.{or_left, or_right}
 use Rattle.scope.specs.Limits.{max_contexts, max_entries, max_parsed, max_name}
-use Rattle.scope.specs.Broken.{all_scalar, is_broken_name, is_broken_list, any_repeated, is_broken_set, any_misplaced}
-use Rattle.scope.specs.Lent.{Lent, scope_of, any_too_long, is_broken}
+use Rattle.scope.specs.Broken.{all_scalar, is_broken_name, is_broken_list, any_repeated, is_broken_set, any_misplaced, is_broken_scope}
+use Rattle.scope.specs.Lent.{Lent, held, held_parsed, scope_of, any_too_long, is_broken}
+use Rattle.scope.specs.Rows.{all_held}
+use Rattle.scope.proofs.HeldLaws.{too_long_take, held_take}
 
 pub short_name : (n : List ℕ) → is_broken_name n ≡ false → length n ≤ max_name
 unfolding is_broken_name
@@ -40,64 +43,54 @@ module _ (c e p s n : ℕ) where
         names_there = ltb-false n (max_entries + max_parsed) (or_right (ltb max_contexts c || ltb max_entries e || ltb max_parsed p || ltb s (max_entries + max_parsed)) (ltb n (max_entries + max_parsed)) h);
       }
 
-  pub over_contexts : max_contexts < c → true ≡ is_over
-  over_contexts h = rw (lt-ltb max_contexts c h)
-
-  module _ (k₁ : c ≤ max_contexts) where
-    pub over_entries : max_entries < e → true ≡ is_over
-    over_entries h = rw (le-ltb max_contexts c k₁, lt-ltb max_entries e h)
-
-    module _ (k₂ : e ≤ max_entries) where
-      pub over_parsed : max_parsed < p → true ≡ is_over
-      over_parsed h = rw (le-ltb max_contexts c k₁, le-ltb max_entries e k₂, lt-ltb max_parsed p h)
-
-      module _ (k₃ : p ≤ max_parsed) where
-        pub over_slots : s < max_entries + max_parsed → true ≡ is_over
-        over_slots h = rw (le-ltb max_contexts c k₁, le-ltb max_entries e k₂, le-ltb max_parsed p k₃, lt-ltb s (max_entries + max_parsed) h)
-
-        pub over_names : max_entries + max_parsed ≤ s → ltb n (max_entries + max_parsed) ≡ is_over
-        over_names h = rw (le-ltb max_contexts c k₁, le-ltb max_entries e k₂, le-ltb max_parsed p k₃, le-ltb s (max_entries + max_parsed) h)
-
 abbrev pub is_over_lent : Lent → Bool
 is_over_lent l = is_over l.contexts l.entries l.parsed (length l.slots) (length l.names)
 
 abbrev pub WithinLent : Lent → Type 0
 WithinLent l = Within l.contexts l.entries l.parsed (length l.slots) (length l.names)
 
--- The clauses behind each other.
-module _ (l : Lent) {o : Bool} (po : o ≡ is_over_lent l) where
-  pub broken_over : o ≡ true → true ≡ is_broken l
+-- The check: the counts and the rows there, then the name lengths of the rows in use, then what they hold.
+module _ (l : Lent) where
+  pub broken_over : is_over_lent l ≡ true → is_broken l ≡ true
   unfolding is_broken
-  broken_over t = rw (sym po ∙ t)
+  broken_over t = rw t
 
-  module _ (no : o ≡ false) {f : Bool} (pf : f ≡ any_too_long l.entries l.slots) where
-    pub broken_long : f ≡ true → true ≡ is_broken l
+  module _ (o : is_over_lent l ≡ false) where
+    limits : WithinLent l
+    limits = within l.contexts l.entries l.parsed (length l.slots) (length l.names) o
+
+    -- The rows in use.
+    front : {ss : List (List ℕ)} → ss ≡ take l.entries l.slots → any_too_long (length ss) ss ≡ any_too_long l.entries l.slots
+    front e = let w = limits in rw e (too_long_take l.entries l.slots (omega arith))
+
+    back : {ss : List (List ℕ)} → ss ≡ take (max_entries + l.parsed - max_entries) (drop max_entries l.slots) → any_too_long (length ss) ss ≡ any_too_long l.parsed (drop max_entries l.slots)
+    back e =
+        let w = limits in
+        let z : max_entries + l.parsed - max_entries ≡ l.parsed = omega arith in
+        rw (e, z) (too_long_take l.parsed (drop max_entries l.slots) (rw length-drop (omega arith)))
+
+    pub broken_long : any_too_long (length (take l.entries l.slots)) (take l.entries l.slots) ≡ true → is_broken l ≡ true
     unfolding is_broken
-    broken_long t = rw (sym po ∙ no, sym pf ∙ t)
+    broken_long t = rw (o, sym (front refl) ∙ t)
 
-    module _ (nf : f ≡ false) {g : Bool} (pg : g ≡ any_too_long l.parsed (drop max_entries l.slots)) where
-      pub broken_long_parsed : g ≡ true → true ≡ is_broken l
+    module _ {ss ns : List (List ℕ)} (e : (ss ≡ take l.entries l.slots) × (ns ≡ take l.entries l.names)) (short : any_too_long (length ss) ss ≡ false) where
+      pub broken_long_parsed : any_too_long (length (take (max_entries + l.parsed - max_entries) (drop max_entries l.slots))) (take (max_entries + l.parsed - max_entries) (drop max_entries l.slots)) ≡ true → is_broken l ≡ true
       unfolding is_broken
-      broken_long_parsed t = rw (sym po ∙ no, sym pf ∙ nf, sym pg ∙ t)
+      broken_long_parsed t = rw (o, sym (front e.0) ∙ short, sym (back refl) ∙ t)
 
-      module _ (ng : g ≡ false) {h : Bool} (ph : h ≡ any_misplaced l.contexts 1 (scope_of l).entries) where
-        pub broken_misplaced : h ≡ true → true ≡ is_broken l
+      module _ {ps qs : List (List ℕ)} (f : (ps ≡ take (max_entries + l.parsed - max_entries) (drop max_entries l.slots)) × (qs ≡ take (max_entries + l.parsed - max_entries) (drop max_entries l.names))) (short' : any_too_long (length ps) ps ≡ false) where
+        held_entries : all_held ss ns ≡ held l.entries l.slots l.names
+        held_entries = let w = limits in rw (e.0, e.1) (held_take l.entries l.slots l.names (omega arith))
+
+        held_names : all_held ps qs ≡ held_parsed l
+        held_names =
+            let w = limits in
+            let z : max_entries + l.parsed - max_entries ≡ l.parsed = omega arith in
+            rw (f.0, f.1, z) (held_take l.parsed (drop max_entries l.slots) (drop max_entries l.names) (rw length-drop (omega arith)))
+
+        pub broken_held : {b : Bool} → b ≡ is_broken_scope (record { contexts = l.contexts; entries = all_held ss ns; parsed = map (λ e. e.name) (all_held ps qs) }) → is_broken l ≡ b
         unfolding is_broken
-        broken_misplaced t = rw (sym po ∙ no, sym pf ∙ nf, sym pg ∙ ng, sym ph ∙ t)
-
-        module _ (nh : h ≡ false) {i : Bool} (pi : i ≡ is_broken_list (scope_of l).entries) where
-          pub broken_list : i ≡ true → true ≡ is_broken l
-          unfolding is_broken
-          broken_list t = rw (sym po ∙ no, sym pf ∙ nf, sym pg ∙ ng, sym ph ∙ nh, sym pi ∙ t)
-
-          module _ (ni : i ≡ false) {j : Bool} (pj : j ≡ any_repeated (scope_of l).entries) where
-            pub broken_repeated : j ≡ true → true ≡ is_broken l
-            unfolding is_broken
-            broken_repeated t = rw (sym po ∙ no, sym pf ∙ nf, sym pg ∙ ng, sym ph ∙ nh, sym pi ∙ ni, sym pj ∙ t)
-
-            pub broken_set : j ≡ false → {k : Bool} → k ≡ is_broken_set (scope_of l).parsed → k ≡ is_broken l
-            unfolding is_broken
-            broken_set nj pk = pk ∙ rw (sym po ∙ no, sym pf ∙ nf, sym pg ∙ ng, sym ph ∙ nh, sym pi ∙ ni, sym pj ∙ nj)
+        broken_held q = rw (o, sym (front e.0) ∙ short, sym (back f.0) ∙ short') (sym (q ∙ rw (held_entries, held_names)))
 
 -- A scope that is not broken.
 pub record Sound (l : Lent) : Type 0 where
@@ -133,3 +126,18 @@ sound l z =
       distinct = or_right (h || i) j y₁;
       unbroken_set = or_right (h || i || j) k y;
     }
+
+-- The rows in use of a scope that is not broken.
+module _ (l : Lent) (z : is_broken l ≡ false) where
+  pub short_front : any_too_long (length (take l.entries l.slots)) (take l.entries l.slots) ≡ false
+  short_front = let s = sound l z in let w = s.limits in too_long_take l.entries l.slots (omega arith) ∙ s.short_entries
+
+  pub entries_front : all_held (take l.entries l.slots) (take l.entries l.names) ≡ (scope_of l).entries
+  entries_front = let s = sound l z in let w = s.limits in held_take l.entries l.slots l.names (omega arith)
+
+  module _ (k : ℕ) (e : k ≡ l.parsed) where
+    pub short_back : any_too_long (length (take k (drop max_entries l.slots))) (take k (drop max_entries l.slots)) ≡ false
+    short_back = let s = sound l z in let w = s.limits in rw e (too_long_take l.parsed (drop max_entries l.slots) (rw length-drop (omega arith)) ∙ s.short_parsed)
+
+    pub parsed_back : map (λ e. e.name) (all_held (take k (drop max_entries l.slots)) (take k (drop max_entries l.names))) ≡ (scope_of l).parsed
+    parsed_back = let s = sound l z in let w = s.limits in rw (e, held_take l.parsed (drop max_entries l.slots) (drop max_entries l.names) (rw length-drop (omega arith)))

@@ -11,3 +11,6 @@ pub mod Rows
 pub mod Answers
 pub mod Listing
 pub mod Sound
+pub mod Parented
+pub mod Viewed
+pub mod Kinds

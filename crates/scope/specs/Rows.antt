@@ -1,5 +1,5 @@
 -- Lent rows by their index.
-use Rattle.std.specs.Prelude.{ℕ, zero, suc, List, [], ◌∷◌, map, get_or, drop}
+use Rattle.std.specs.Prelude.{ℕ, zero, suc, List, [], ◌∷◌, map, length, get_or, drop}
 use Rattle.scope.specs.Limits.{max_entries}
 use Rattle.scope.specs.Entries.{Entry}
 use Rattle.scope.specs.Lent.{entry_of, held}
@@ -7,6 +7,10 @@ use Rattle.scope.specs.Lent.{entry_of, held}
 -- The entry in slot i.
 abbrev pub entry_at : List (List ℕ) → List (List ℕ) → ℕ → Entry
 entry_at ss ns i = entry_of (get_or ss i []) (get_or ns i [])
+
+-- The entries of paired rows.
+abbrev pub all_held : List (List ℕ) → List (List ℕ) → List Entry
+all_held ss ns = held (length ss) ss ns
 
 -- The name length in slot i.
 abbrev pub name_length : List (List ℕ) → ℕ → ℕ

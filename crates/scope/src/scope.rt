@@ -5,6 +5,7 @@ ghost use Rattle.scope.specs.Entries.{opened, variable, context_kind};
 ghost use Rattle.scope.specs.Keys.{longest_key};
 ghost use Rattle.scope.specs.Lent.{scope_of, is_broken};
 ghost use Rattle.scope.specs.Answers.{lent};
+ghost use Rattle.scope.specs.Kinds.{kind_number};
 
 // How many contexts are stacked, and how many entries and parsed names are in use.
 #[derive(Clone, Copy)]
@@ -50,13 +51,18 @@ impl Scope {
 }
 
 // What an entry is.
-#[derive(Clone, Copy)]
-pub struct Kind {}
+#[derive(Clone, Copy, Debug, PartialEq, Eq)]
+pub enum Kind {
+    Variable = 0,
+    Context = 1,
+}
 
-impl Kind {
-    pub const VARIABLE: u32 = 0;
+impl From<Kind> for u32 {
+    ghost from_gives = { λ k n. n ≡ kind_number k };
 
-    pub const CONTEXT: u32 = 1;
+    fn from(k: Kind) -> u32 {
+        k as u32
+    }
 }
 
 // The places in a row of slots. A parsed name uses the last alone.
@@ -106,7 +112,7 @@ pub fn numbers() -> [usize; 10]
         Scope::MAX_DEPTH as usize,
         Scope::LEVELS,
         Scope::LONGEST_KEY,
-        Kind::VARIABLE as usize,
-        Kind::CONTEXT as usize,
+        Kind::Variable as usize,
+        Kind::Context as usize,
     ]
 }
