@@ -1,22 +1,19 @@
 -- Flattened keys, level by level, as the code meets them.
 use mathlib.Core.Path.{◌≡◌, refl, sym, ◌∙◌}
 use mathlib.Core.Bool.{Bool, true, false, ◌&&◌, ◌||◌}
-use mathlib.Core.List.{List, [], ◌++◌}
+use mathlib.Core.List.{List, ◌++◌}
 use Prim.Native.Nat.{ℕ, zero, suc, ◌+◌, ◌-◌, ◌<◌, ◌≤◌}
 use native.Mathlib.Omega.{arith}
-use native.Mathlib.Numerals.{add-one}
-use lib.ListN.{length, get_or, drop, take, length-append}
+use lib.ListN.{length, get_or, drop}
 use borrow.Author.Tests.{eq-eqb, ne_eqb, lt-ltb, le-ltb}
 use Rattle.reading.specs.Codes.{codes}
 use Rattle.names.specs.Same.{same, member}
 use Rattle.scope.specs.Entries.{Entry}
 use Rattle.scope.specs.Keys.{keys_of, level, levels}
-use Rattle.scope.specs.Lent.{held}
-use Rattle.scope.specs.Rows.{entry_at}
-use Rattle.search.specs.Rests.{leads, past}
-use Rattle.search.proofs.TextLaws.{member-append, member-qualified, past_zero, past_some}
-use Rattle.scope.proofs.CompareLaws.{lent-rest}
-use Rattle.scope.proofs.HeldLaws.{held-step, held-end}
+use Rattle.scope.specs.Viewed.{no_entry}
+use Rattle.search.specs.Rests.{leads}
+use Rattle.search.proofs.TextLaws.{member-append, member-qualified}
+use Rattle.scope.proofs.BrokenLaws.{entries_end, entry_step}
 
 abbrev dot : List ℕ
 dot = codes " . "
@@ -36,29 +33,30 @@ module _ (n d : ℕ) (es : List Entry) where
       go (suc m) z = let q : suc m - 1 ≡ m = omega arith in rw q refl
 
 -- The loop over one level.
-module _ (x : List ℕ) (f : List Entry → List (List ℕ)) (d i k : ℕ) (ss ns : List (List ℕ)) (h : k ≤ length ss) (j : k ≤ length ns) where
-  pub level-end : k ≤ i → member x (level f d (drop i (held k ss ns))) ≡ false
+module _ (x : List ℕ) (f : List Entry → List (List ℕ)) (d : ℕ) (es : List Entry) (i : ℕ) where
+  pub level_end : length es ≤ i → member x (level f d (drop i es)) ≡ false
   unfolding level member
-  level-end g = rw (held-end i k ss ns g h j)
+  level_end g = rw (entries_end es i g)
 
-  module _ (g : i < k) where
-    pub level_less : get_or (get_or ss i []) 1 0 < d → member x (level f d (drop i (held k ss ns))) ≡ false
+  module _ {e : Entry} (at : e ≡ get_or es i no_entry) (g : i < length es) where
+    pub level_less : e.depth < d → member x (level f d (drop i es)) ≡ false
     unfolding level member
-    level_less e = rw (held-step i k ss ns g h j, lt-ltb _ _ e)
+    level_less l = rw (entry_step es i at g, lt-ltb _ _ l)
 
-    pub level-deeper : d ≤ get_or (get_or ss i []) 1 0 → (get_or (get_or ss i []) 1 0 ≡ d → ⊥) → member x (level f d (drop i (held k ss ns))) ≡ member x (level f d (drop (i + 1) (held k ss ns)))
+    pub level_deeper : d ≤ e.depth → (e.depth ≡ d → ⊥) → member x (level f d (drop i es)) ≡ member x (level f d (drop (i + 1) es))
     unfolding level
-    level-deeper e n = rw (add-one, held-step i k ss ns g h j, le-ltb _ _ e, ne_eqb _ _ n)
+    level_deeper l n = rw (entry_step es i at g, le-ltb _ _ l, ne_eqb _ _ n)
 
-    pub level_here : get_or (get_or ss i []) 1 0 ≡ d → member x (level f d (drop i (held k ss ns))) ≡ member x (keys_of f (entry_at ss ns i) (drop (i + 1) (held k ss ns))) || member x (level f d (drop (i + 1) (held k ss ns)))
-    unfolding level
-    level_here e = rw (add-one, held-step i k ss ns g h j, le-ltb (get_or (get_or ss i []) 1 0) d (omega arith), eq-eqb _ _ e) (member-append x _ _)
+    module _ (h : e.depth ≡ d) {b : Bool} (o : b ≡ member x (keys_of f (get_or es i no_entry) (drop (i + 1) es))) where
+      level_here : member x (level f d (drop i es)) ≡ b || member x (level f d (drop (i + 1) es))
+      unfolding level
+      level_here = rw (entry_step es i at g, le-ltb e.depth d (omega arith), eq-eqb _ _ h) (member-append x (keys_of f e (drop (i + 1) es)) (level f d (drop (i + 1) es)) ∙ rw (at, o))
 
-    pub level-found : {b : Bool} → get_or (get_or ss i []) 1 0 ≡ d → b ≡ member x (keys_of f (entry_at ss ns i) (drop (i + 1) (held k ss ns))) → b ≡ true → member x (level f d (drop i (held k ss ns))) ≡ true
-    level-found e o t = level_here e ∙ rw (sym o ∙ t)
+      pub level_found : b ≡ true → member x (level f d (drop i es)) ≡ true
+      level_found t = level_here ∙ rw t
 
-    pub level_missed : {b : Bool} → get_or (get_or ss i []) 1 0 ≡ d → b ≡ member x (keys_of f (entry_at ss ns i) (drop (i + 1) (held k ss ns))) → b ≡ false → member x (level f d (drop i (held k ss ns))) ≡ member x (level f d (drop (i + 1) (held k ss ns)))
-    level_missed e o t = level_here e ∙ rw (sym o ∙ t)
+      pub level_missed : b ≡ false → member x (level f d (drop i es)) ≡ member x (level f d (drop (i + 1) es))
+      level_missed t = level_here ∙ rw t
 
 -- One entry.
 module _ (x : List ℕ) (e : Entry) (es : List Entry) where
@@ -81,12 +79,9 @@ module _ (x : List ℕ) (e : Entry) (es : List Entry) (f : List Entry → List (
   pub keys_found : h ≡ true → member x (keys_of f e es) ≡ true
   keys_found u = keys_context x e es p t f k ∙ rw (sym q ∙ u)
 
-  module _ (u : h ≡ false) {m : ℕ} (s : m ≡ past (e.name ++ dot) x) where
-    three : length e.name + 3 ≡ suc (length e.name + 2)
-    three = omega arith
+  module _ (u : h ≡ false) where
+    pub keys_none : leads (e.name ++ dot) x ≡ false → member x (keys_of f e es) ≡ false
+    keys_none v = keys_context x e es p t f k ∙ rw (sym q ∙ u, v)
 
-    pub keys_none : m ≡ 0 → member x (keys_of f e es) ≡ false
-    keys_none v = keys_context x e es p t f k ∙ rw (sym q ∙ u, past_zero (length e.name + 2) (e.name ++ dot) x (length-append e.name dot ∙ three) s v)
-
-    pub keys_path : (m ≡ 0 → ⊥) → {a : Bool} → a ≡ member (take (length x - m) (drop m x)) (f es) → a ≡ member x (keys_of f e es)
-    keys_path v g = let w = past_some (e.name ++ dot) x s v in g ∙ rw (lent-rest x m) (sym (keys_context x e es p t f k ∙ rw (sym q ∙ u, w.0, sym w.1)))
+    pub keys_path : {y : List ℕ} → (leads (e.name ++ dot) x ≡ true) × (y ≡ drop (length (e.name ++ dot)) x) → {a : Bool} → a ≡ member y (f es) → a ≡ member x (keys_of f e es)
+    keys_path w g = g ∙ rw w.1 (sym (keys_context x e es p t f k ∙ rw (sym q ∙ u, w.0)))

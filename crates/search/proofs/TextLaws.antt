@@ -1,18 +1,20 @@
 -- Texts that begin with a name and a dot, and keys behind them.
 use mathlib.Core.Path.{◌≡◌, refl, sym, ◌∙◌, ap}
-use mathlib.Core.Bool.{Bool, true, false, cond, ◌&&◌, ◌||◌}
+use mathlib.Core.Bool.{Bool, true, false, ◌&&◌, ◌||◌}
 use mathlib.Core.List.{List, [], ◌∷◌, ◌++◌}
-use Prim.Native.Nat.{ℕ, zero, suc, ◌+◌, ◌-◌, ◌<◌, ◌≤◌}
-use native.Mathlib.Omega.{arith}
+use Prim.Native.Nat.{ℕ, ◌+◌}
 use lib.Dec.{eqb}
-use lib.ListN.{length, drop, take, length-append, length-drop}
-use lib.Seq.{length-take-le}
+use lib.Pointwise.{pointwise}
+use lib.ListN.{length, drop, take, length-append}
+use lib.Seq.{drop-drop}
+use Rattle.std.specs.Prelude.{Option, Some, None, MatchOption}
+use Rattle.std.specs.Borrow.{Bor}
 use Rattle.reading.specs.Codes.{codes}
 use Rattle.names.specs.Same.{same, member}
+use Rattle.names.proofs.SameLaws.{eqb_sym}
 use Rattle.scope.specs.Keys.{qualified}
-use Rattle.search.specs.Rests.{leads, past}
+use Rattle.search.specs.Rests.{leads}
 use Rattle.scope.proofs.SearchLaws.{and_none}
-use Rattle.scope.proofs.CompareLaws.{lent-rest}
 
 abbrev dot : List ℕ
 dot = codes " . "
@@ -34,20 +36,27 @@ leads-append [] q x = refl
 leads-append (a ∷ p) q [] = refl
 leads-append (a ∷ p) q (b ∷ x) = ap (λ z. eqb a b && z) (leads-append p q x) ∙ and_assoc (eqb a b) _ _
 
-leads_short : (p x : List ℕ) → length x < length p → leads p x ≡ false
+-- What std's comparison says of a prefix.
+leads-front : (p x : List ℕ) → pointwise eqb (take (length p) x) p ≡ leads p x
 unfolding leads
-leads_short [] x h = absurd (omega arith)
-leads_short (a ∷ p) [] h = refl
-leads_short (a ∷ p) (b ∷ x) h = rw (leads_short p x (omega arith)) (and_none (eqb a b))
+leads-front [] x = refl
+leads-front (a ∷ p) [] = refl
+leads-front (a ∷ p) (b ∷ x) = rw (eqb_sym b a) (ap (λ z. eqb a b && z) (leads-front p x))
 
--- Leading is being equal to the front.
-leads-front : (p x : List ℕ) (n : ℕ) → length p ≡ n → n ≤ length x → leads p x ≡ same p (take n x)
-unfolding same leads
-leads-front [] x zero e h = refl
-leads-front [] x (suc n) e h = absurd (omega arith)
-leads-front (a ∷ p) [] n e h = absurd (omega arith)
-leads-front (a ∷ p) (b ∷ x) zero e h = absurd (omega arith)
-leads-front (a ∷ p) (b ∷ x) (suc n) e h = ap (λ z. eqb a b && z) (leads-front p x n (omega arith) (omega arith))
+-- A text that begins with p, or with p and then q.
+module _ (p q x : List ℕ) where
+  pub front_other : pointwise eqb (take (length p) x) p ≡ false → leads (p ++ q) x ≡ false
+  front_other h = leads-append p q x ∙ rw (sym (leads-front p x) ∙ h)
+
+  module _ (h : pointwise eqb (take (length p) x) p ≡ true) {y : List ℕ} (e : y ≡ drop (length p) x) where
+    front_leads : pointwise eqb (take (length q) y) q ≡ leads (p ++ q) x
+    front_leads = leads-front q y ∙ sym (leads-append p q x ∙ rw (sym (leads-front p x) ∙ h, e))
+
+    pub behind_front : (r : Option (Bor (List ℕ)))
+        → MatchOption r (pointwise eqb (take (length q) y) q ≡ false) (λ z. (pointwise eqb (take (length q) y) q ≡ true) × (z.now ≡ drop (length q) y) × (length z.now + length q ≡ length y))
+        → MatchOption r (leads (p ++ q) x ≡ false) (λ z. (leads (p ++ q) x ≡ true) × (z.now ≡ drop (length (p ++ q)) x))
+    behind_front None k = sym front_leads ∙ k
+    behind_front (Some z) k = (sym front_leads ∙ k.0, k.1 ∙ rw (e, length-append p q, drop-drop (length q) (length p) x))
 
 -- Keys of a list of two parts, and behind a context's name.
 pub member-append : (x : List ℕ) (k l : List (List ℕ)) → member x (k ++ l) ≡ member x k || member x l
@@ -76,49 +85,3 @@ member-qualified x n (k ∷ ks) = rw (assoc n dot k, same-append (n ++ dot) k x,
     assoc : (a b c : List ℕ) → a ++ (b ++ c) ≡ (a ++ b) ++ c
     assoc [] b c = refl
     assoc (y ∷ a) b c = ap (λ z. y ∷ z) (assoc a b c)
-
--- A name that is the first n cells of a row.
-module _ (r : List ℕ) (n : ℕ) (x : List ℕ) (k : n ≤ length r) where
-  path_length : length (take n r ++ dot) ≡ n + 3
-  path_length = length-append (take n r) dot ∙ ap (λ z. z + 3) (length-take-le n r k)
-
-  pub past_short : length x < n + 3 → past (take n r ++ dot) x ≡ 0
-  unfolding past
-  past_short h = rw (leads_short (take n r ++ dot) x (rw path_length h))
-
-  module _ (h : n + 3 ≤ length x) {b : Bool} (e : b ≡ same (take n r) (take n x)) where
-    path_parts : leads (take n r ++ dot) x ≡ b && leads dot (drop n x)
-    path_parts = leads-append (take n r) dot x ∙ rw (length-take-le n r k, leads-front (take n r) x n (length-take-le n r k) (omega arith), ← e)
-
-    pub past_other : b ≡ false → past (take n r ++ dot) x ≡ 0
-    unfolding past
-    past_other t = rw (path_parts, t)
-
-    module _ (t : b ≡ true) {a : Bool} (f : a ≡ same dot (take 3 (take (length x - n) (drop n x)))) where
-      dotted : leads dot (drop n x) ≡ a
-      dotted = leads-front dot (drop n x) 3 refl (rw length-drop (omega arith)) ∙ sym (rw (lent-rest x n) at f)
-
-      pub past_bare : a ≡ false → past (take n r ++ dot) x ≡ 0
-      unfolding past
-      past_bare u = rw (path_parts, t, dotted, u)
-
-      pub past_there : a ≡ true → past (take n r ++ dot) x ≡ n + 3
-      unfolding past
-      past_there u = rw (path_parts, t, dotted, u, path_length)
-
--- What the answer says.
-pub past_zero : {m : ℕ} (a : ℕ) (p x : List ℕ) → length p ≡ suc a → m ≡ past p x → m ≡ 0 → leads p x ≡ false
-unfolding past
-past_zero a p x g e z = gone (leads p x) (sym e ∙ z)
-  where
-    gone : (b : Bool) → cond b (length p) 0 ≡ 0 → b ≡ false
-    gone false f = refl
-    gone true f = absurd (omega arith)
-
-pub past_some : {m : ℕ} (p x : List ℕ) → m ≡ past p x → (m ≡ 0 → ⊥) → (leads p x ≡ true) × (m ≡ length p)
-unfolding past
-past_some p x e z = gone (leads p x) e z
-  where
-    gone : {m : ℕ} (b : Bool) → m ≡ cond b (length p) 0 → (m ≡ 0 → ⊥) → (b ≡ true) × (m ≡ length p)
-    gone false f y = absurd (y f)
-    gone true f y = (refl, f)

@@ -1,117 +1,103 @@
--- What the names in the slots add to a key, slot by slot and depth by depth, and that no name of the scope is longer.
-use mathlib.Core.Path.{◌≡◌, refl, sym, ◌∙◌}
+-- The most that a name at each depth adds, kept in a row of numbers; and that no name of the scope is longer than all of them together.
+use mathlib.Core.Path.{◌≡◌, refl, ◌∙◌}
 use mathlib.Core.List.{List, [], ◌∷◌, map}
-use Prim.Native.Nat.{ℕ, zero, suc, ◌+◌, ◌-◌, ◌<◌, ◌≤◌, max}
+use Prim.Native.Nat.{ℕ, zero, suc, ◌+◌, ◌*◌, ◌<◌, ◌≤◌}
 use native.Mathlib.Omega.{arith}
-use native.Mathlib.Numerals.{add-one}
-use lib.ListN.{get_or, drop, length-take}
-use lib.Seq.{get_or-drop}
-use borrow.Author.Tests.{eq-eqb, ne_eqb}
+use Rattle.std.proofs.Common.{zero-add}
+use lib.ListN.{length, get_or, set, replicate, length-set, length-take}
+use lib.Seq.{get_or-set_same, get_or-set_other}
+use Rattle.std.specs.List.{sum, All}
+use Rattle.std.proofs.lemmas.List.Sums.{sum_by-cons}
 use Rattle.reading.proofs.Test.{by_order}
-use Rattle.scope.specs.Limits.{max_entries, max_depth}
-use Rattle.scope.specs.Entries.{Entry}
-use Rattle.scope.specs.Keys.{is_name}
+use Rattle.scope.specs.Limits.{max_name, max_depth}
+use Rattle.scope.specs.Entries.{Entry, ParsingScope}
+use Rattle.scope.specs.Keys.{is_name, longest_key}
 use Rattle.scope.specs.Capped.{Capped}
-use Rattle.scope.specs.Lent.{Lent, scope_of, held, held_parsed}
-use Rattle.scope.specs.Rows.{name_length}
-use Rattle.search.specs.Longest.{most, total, width, widest, longest_parsed, Deepest}
+use Rattle.scope.specs.Viewed.{no_entry}
+use Rattle.scope.specs.declared.rows.Rows.{Rows}
+use Rattle.scope.specs.Sound.{rows_entries}
+use Rattle.scope.proofs.HeldLaws.{short_at, all_length, all_at}
+use Rattle.search.specs.Longest.{total, Covers}
 use Rattle.search.proofs.LongestLaws.{Fits, Short, capped}
 
--- Each number is at most the largest.
-module _ (f : ℕ → ℕ) where
-  pub most_none : most f 0 ≡ 0
-  unfolding most
-  most_none = refl
+-- A row has no longer name than it has cells.
+pub short_held : (r : Rows) (i : ℕ) → i < length (rows_entries r) → length (get_or (rows_entries r) i no_entry).name ≤ max_name
+short_held r i h =
+    let l : i < length r.slots.now = omega (arith, all_length r.slots.now r.names.now r.paired) in
+    rw (all_at r.slots.now r.names.now r.paired i l) (omega (arith, length-take (get_or (get_or r.slots.now i []) 3 0) (get_or r.names.now i []), short_at (length r.slots.now) r.slots.now i r.short (omega arith) l))
 
-  pub most_more : (i : ℕ) {m n r : ℕ} → m ≡ most f i → n ≡ f i → r ≡ max m n → r ≡ most f (i + 1)
-  unfolding most
-  most_more i h k e = rw (add-one, e, h, k) refl
+-- A number of a row, after one of them was set.
+set_at : (ws : List ℕ) (d v k : ℕ) (P : ℕ → Type 0) → d < length ws → P v → P (get_or ws k 0) → P (get_or (set ws d v) k 0)
+set_at ws d v k P l here other = by_order k d
+    (λ m. rw (get_or-set_other ws d k v 0 (λ e. absurd (omega arith))) other)
+    (λ m. by_order d k
+    (λ n. rw (get_or-set_other ws d k v 0 (λ e. absurd (omega arith))) other)
+    (λ n. let e : k ≡ d = omega arith in rw (e, get_or-set_same ws d v 0 l) here))
 
-  pub most-all : (i k : ℕ) {m : ℕ} → k ≤ i → i ≤ k → m ≡ most f i → m ≡ most f k
-  most-all i k g l h = let e : i ≡ k = omega arith in rw (← e) h
+-- The numbers, once the names of the first i entries were seen.
+pub record Seen (es : List Entry) (i : ℕ) (ws : List ℕ) : Type 0 where
+  pub size : length ws ≡ suc max_depth
+  pub small : (d : ℕ) → get_or ws d 0 ≤ max_name + 3
+  pub covers : (j : ℕ) → j < i → length (get_or es j no_entry).name + 3 ≤ get_or ws (get_or es j no_entry).depth 0
 
-  most-at : (k i : ℕ) → i < k → f i ≤ most f k
-  unfolding most
-  most-at zero i h = absurd (omega arith)
-  most-at (suc k) i h = by_order i k
-      (λ l. let m = most-at k i l in omega arith)
-      (λ l. let e : i ≡ k = omega arith in rw e (omega arith))
-
-  -- The sum from the last number down.
-  module _ (n : ℕ) where
-    module _ (d : ℕ) {s : ℕ} (h : s ≡ total f (n - d) d) where
-      pub total_more : {r : ℕ} → 0 < d → d ≤ n → r ≡ f (d - 1) → s + r ≡ total f (n - (d - 1)) (d - 1)
-      unfolding total
-      total_more l k e = go (d - 1) (omega arith) e
-        where
-          go : (i : ℕ) → d ≡ i + 1 → {r : ℕ} → r ≡ f i → s + r ≡ total f (n - i) i
-          go i q e = let z : n - i ≡ suc (n - d) = omega arith in rw (z, e, ← q) (omega (arith, h))
-
-      pub total-all : d ≤ 0 → s ≡ total f n 0
-      total-all l = let z : d ≡ 0 = omega arith in let y : n - 0 ≡ n = omega arith in h ∙ rw (z, y) refl
-
--- One slot.
-module _ (ss : List (List ℕ)) (d i : ℕ) where
-  pub width_other : (get_or (get_or ss i []) 1 0 ≡ d → ⊥) → 0 ≡ width ss d i
-  unfolding width
-  width_other h = rw (ne_eqb _ _ h)
-
-  pub width_here : get_or (get_or ss i []) 1 0 ≡ d → name_length ss i + 3 ≡ width ss d i
-  unfolding width
-  width_here h = rw (eq-eqb _ _ h)
-
--- The depths in use, slot by slot; at those behind them nothing is added.
-pub deepest_none : (ss : List (List ℕ)) → Deepest ss 0 0
-deepest_none ss = record { few = omega arith; none = λ i h l. absurd (omega arith) }
-
-pub deepest_more : (ss : List (List ℕ)) (i : ℕ) {m r : ℕ} → Deepest ss i m → m ≤ r → r ≤ max_depth + 1 → (get_or (get_or ss i []) 1 0 ≤ max_depth → get_or (get_or ss i []) 1 0 < r) → Deepest ss (i + 1) r
-deepest_more ss i {m} {r} h l g f = record {
-  few = g;
-  none = λ j k d. by_order j i
-      (λ u. let z = h.none j u d in omega arith)
-      (λ u. let e : i ≡ j = omega arith in rw (← e) (f (rw e d)));
+pub seen_more : (es : List Entry) (i : ℕ) (ws : List ℕ) (v : ℕ) {e : Entry} → Seen es i ws → e ≡ get_or es i no_entry → e.depth ≤ max_depth → get_or ws e.depth 0 ≤ v → length e.name + 3 ≤ v → v ≤ max_name + 3
+    → Seen es (i + 1) (set ws e.depth v)
+seen_more es i ws v {e} s at h l m n = record {
+  size = length-set ws e.depth v ∙ s.size;
+  small = λ k. set_at ws e.depth v k (λ x. x ≤ max_name + 3) inside n (s.small k);
+  covers = λ j g. by_order j i (λ u. kept j (s.covers j u)) (λ u. let q : j ≡ i = omega arith in rw q new);
 }
+  where
+    inside : e.depth < length ws
+    inside = omega (arith, s.size)
 
-pub deepest_all : (ss : List (List ℕ)) (i k : ℕ) {r : ℕ} → k ≤ i → i ≤ k → Deepest ss i r → Deepest ss k r
-deepest_all ss i k g l h = let e : k ≡ i = omega arith in rw e h
+    new : length (get_or es i no_entry).name + 3 ≤ get_or (set ws e.depth v) (get_or es i no_entry).depth 0
+    new = rw (← at, get_or-set_same ws e.depth v 0 inside) m
 
-most_zero : (f : ℕ → ℕ) (k : ℕ) → ((i : ℕ) → i < k → f i ≡ 0) → most f k ≡ 0
-unfolding most
-most_zero f zero h = refl
-most_zero f (suc k) h = rw (most_zero f k (λ i l. h i (omega arith)), h k (omega arith)) refl
+    kept : (j : ℕ) → length (get_or es j no_entry).name + 3 ≤ get_or ws (get_or es j no_entry).depth 0 → length (get_or es j no_entry).name + 3 ≤ get_or (set ws e.depth v) (get_or es j no_entry).depth 0
+    kept j c = by_order (get_or es j no_entry).depth e.depth
+        (λ u. rw (get_or-set_other ws e.depth (get_or es j no_entry).depth v 0 (λ q. absurd (omega arith))) c)
+        (λ u. by_order e.depth (get_or es j no_entry).depth
+        (λ w. rw (get_or-set_other ws e.depth (get_or es j no_entry).depth v 0 (λ q. absurd (omega arith))) c)
+        (λ w. let q : (get_or es j no_entry).depth ≡ e.depth = omega arith in rw (q, get_or-set_same ws e.depth v 0 inside) (omega (arith, rw q at c))))
 
-total_zero : (f : ℕ → ℕ) (n d : ℕ) → ((e : ℕ) → d ≤ e → e < d + n → f e ≡ 0) → total f n d ≡ 0
+zeros : (n d : ℕ) → get_or {A = ℕ} (replicate n 0) d 0 ≡ 0
+zeros zero d = refl
+zeros (suc n) zero = refl
+zeros (suc n) (suc d) = zeros n d
+
+pub seen_none : (es : List Entry) → Seen es 0 (replicate 8 0)
+seen_none es = record { size = refl; small = λ d. omega (arith, zeros 8 d); covers = λ j l. absurd (omega arith) }
+
+sum_small : (b : ℕ) (ws : List ℕ) → ((d : ℕ) → get_or ws d 0 ≤ b) → sum ws ≤ b * length ws
+sum_small b [] h = omega arith
+sum_small b (w ∷ ws) h = rw (sum_by-cons (λ x. x) w ws) (omega (arith, h 0, sum_small b ws (λ d. h (suc d))))
+
+pub seen_all : (es : List Entry) (i : ℕ) (ws : List ℕ) → Seen es i ws → length es ≤ i → Covers ws es × (sum ws ≤ longest_key + 3)
+seen_all es i ws s h = (λ j l. s.covers j (omega arith), omega (arith, s.size, sum_small (max_name + 3) ws s.small))
+
+-- What covers each name fits the list.
+covered : (ws : List ℕ) (es : List Entry) → Covers ws es → Fits (λ d. get_or ws d 0) es
+covered ws [] h = tt
+covered ws (e ∷ es) h = (h 0 (omega arith), covered ws es (λ i l. h (suc i) (omega arith)))
+
+short_names : (n : ℕ) (ns : List (List ℕ)) → All (λ x. length x ≤ n) ns → Short n ns
+short_names n [] h = tt
+short_names n (x ∷ ns) h = (h 0 [] (omega arith), short_names n ns (λ i d l. h (suc i) d (omega arith)))
+
+-- The names of entries that are none longer.
+pub names_short : (es : List Entry) (n : ℕ) → ((i : ℕ) → i < length es → length (get_or es i no_entry).name ≤ n) → All (λ x. length x ≤ n) (map (λ e. e.name) es)
+names_short [] n h i d l = absurd (omega arith)
+names_short (e ∷ es) n h zero d l = h 0 (omega arith)
+names_short (e ∷ es) n h (suc i) d l = names_short es n (λ j g. h (suc j) (omega arith)) i d (omega arith)
+
+-- The sum of the row.
+total_sum : (f : ℕ → ℕ) (ws : List ℕ) (d : ℕ) → ((k : ℕ) → f (d + k) ≡ get_or ws k 0) → total f (length ws) d ≡ sum ws
 unfolding total
-total_zero f zero d h = refl
-total_zero f (suc n) d h = rw (h d (omega arith) (omega arith), total_zero f n (d + 1) (λ e l g. h e (omega arith) (omega arith))) refl
+total_sum f [] d h = refl
+total_sum f (w ∷ ws) d h =
+    let q : d + 0 ≡ d = omega arith in
+    rw (sum_by-cons (λ x. x) w ws, rw q at (h 0), total_sum f ws (d + 1) (λ k. let z : d + 1 + k ≡ d + suc k = omega arith in rw z (h (suc k)))) refl
 
-pub deepest_total : (ss : List (List ℕ)) (k : ℕ) {r : ℕ} → Deepest ss k r → 0 ≡ total (widest ss k) (max_depth + 1 - r) r
-deepest_total ss k {r} h = sym (total_zero (widest ss k) (max_depth + 1 - r) r (λ d l g. most_zero (width ss d) k (λ i u. sym (width_other ss d i (other d l g i u)))))
-  where
-    other : (d : ℕ) → r ≤ d → d < r + (max_depth + 1 - r) → (i : ℕ) → i < k → get_or (get_or ss i []) 1 0 ≡ d → ⊥
-    other d l g i u e = let f = h.few in let z = h.none i u (omega arith) in omega arith
-
--- A name has no more cells than its slot says.
-held_fits : (w : ℕ → ℕ) (k : ℕ) (ss ns : List (List ℕ)) → ((i : ℕ) → i < k → name_length ss i + 3 ≤ w (get_or (get_or ss i []) 1 0)) → Fits w (held k ss ns)
-unfolding held
-held_fits w zero ss ns h = tt
-held_fits w (suc k) [] ns h = tt
-held_fits w (suc k) (s ∷ ss) [] h = tt
-held_fits w (suc k) (s ∷ ss) (n ∷ ns) h = (omega (arith, h 0 (omega arith), length-take (get_or s 3 0) n), held_fits w k ss ns (λ i l. h (suc i) (omega arith)))
-
-named_short : (p : ℕ) (es : List Entry) → Fits (λ d. p + 3) es → Short p (map (λ e. e.name) es)
-named_short p [] h = tt
-named_short p (e ∷ es) h = (let l = h.0 in omega arith, named_short p es h.1)
-
-pub lent_capped : (l : Lent) (r : ℕ) → total (widest l.slots l.entries) (suc max_depth) 0 ≤ r + 3 → longest_parsed l.slots l.parsed ≤ r → Capped (is_name (scope_of l)) r
-lent_capped l r h k = capped (widest l.slots l.entries) (longest_parsed l.slots l.parsed) r (scope_of l)
-    (held_fits (widest l.slots l.entries) l.entries l.slots l.names wide)
-    (named_short (longest_parsed l.slots l.parsed) (held_parsed l) (held_fits (λ d. longest_parsed l.slots l.parsed + 3) l.parsed (drop max_entries l.slots) (drop max_entries l.names) long))
-    h
-    k
-  where
-    wide : (i : ℕ) → i < l.entries → name_length l.slots i + 3 ≤ widest l.slots l.entries (get_or (get_or l.slots i []) 1 0)
-    wide i g = rw (width_here l.slots (get_or (get_or l.slots i []) 1 0) i refl) (most-at (width l.slots (get_or (get_or l.slots i []) 1 0)) l.entries i g)
-
-    long : (i : ℕ) → i < l.parsed → name_length (drop max_entries l.slots) i + 3 ≤ longest_parsed l.slots l.parsed + 3
-    long i g = rw (get_or-drop max_entries l.slots i []) (let m = most-at (λ j. name_length l.slots (max_entries + j)) l.parsed i g in omega arith)
+pub row_capped : (s : ParsingScope) (ws : List ℕ) (p b : ℕ) → length ws ≡ suc max_depth → Covers ws s.entries → All (λ n. length n ≤ p) s.parsed → sum ws ≤ b + 3 → p ≤ b → Capped (is_name s) b
+row_capped s ws p b l c h k m = capped (λ d. get_or ws d 0) p b s (covered ws s.entries c) (short_names p s.parsed h) (rw (← l, total_sum (λ d. get_or ws d 0) ws 0 (λ d. rw zero-add)) k) m

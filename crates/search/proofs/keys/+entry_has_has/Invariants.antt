@@ -1,8 +1,8 @@
 -- The levels left fall with each call; no entry passed has the text as a key.
-use Rattle.std.proofs.Common.{◌-◌, ◌≡◌, ◌+◌, ◌≤◌, ◌*◌, drop}
+use Rattle.std.proofs.Common.{◌≡◌, ◌+◌, ◌-◌, ◌*◌, drop}
 use Rattle.names.specs.Same.{member}
 use Rattle.scope.specs.Keys.{level, levels}
-use Rattle.scope.specs.Lent.{held}
+use Rattle.scope.specs.Sound.{rows_entries}
 use Rattle.search.proofs.keys.+entry_has_has.Given as goal
 
 abbrev pub decreases-entry_has : goal.decreases-entry_has
@@ -12,7 +12,4 @@ abbrev pub decreases-has : goal.decreases-has
 decreases-has l = 2 * l.levels + 1
 
 abbrev pub invariant-has-loop-i : goal.invariant-has-loop-i
-invariant-has-loop-i l = (l.i ≤ l.count) × (member l.text (levels l.levels l.d (drop l.from (held l.count l.slots l.names))) ≡ member l.text (level (levels (l.levels - 1) (l.d + 1)) l.d (drop l.i (held l.count l.slots l.names))))
-
-abbrev pub decreases-has-loop-i : goal.decreases-has-loop-i
-decreases-has-loop-i l = l.count - l.i
+invariant-has-loop-i l = member l.text (levels l.levels l.d (drop l.from (rows_entries l.entries))) ≡ member l.text (level (levels (l.levels - 1) (l.d + 1)) l.d (drop l.i (rows_entries l.entries)))

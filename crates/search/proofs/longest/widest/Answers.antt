@@ -1,22 +1,41 @@
--- What was passed is the most that a slot before i adds.
-use Rattle.search.specs.Longest.{width}
-use Rattle.search.proofs.WidthLaws.{most_none, most_more, most-all}
+-- The numbers cover the names of the entries passed.
+use mathlib.Core.Path.{sym, ◌∙◌}
+use mathlib.Core.List.{[]}
+use Prim.Native.Nat.{◌≤◌}
 use native.Mathlib.Omega.{arith}
+use lib.ListN.{length}
+use Rattle.scope.specs.Limits.{max_name, max_depth}
+use Rattle.scope.specs.Answers.{lent}
+use Rattle.scope.specs.Sound.{rows_entries}
+use Rattle.scope.proofs.SoundLaws.{sound}
+use Rattle.scope.proofs.BrokenLaws.{ranged, broken_all}
+use Rattle.search.proofs.WidthLaws.{short_held, seen_none, seen_more, seen_all}
 use Rattle.search.proofs.longest.widest.Goals as goal
+use Rattle.search.proofs.longest.widest.Goals.{After-at-e}
+
+-- The entry read is not broken.
+in_range : (c : After-at-e) → (c.at-e.result.depth ≤ max_depth) × (length c.at-e.result.name.now ≤ max_name)
+in_range c =
+    let a = c.args.scope in
+    let es = rows_entries c.entries-entries.result in
+    let s = sound (lent a.counts a.slots.now a.names.now) a.sound in
+    let r = ranged max_depth [] es (sym (broken_all [] es) ∙ rw c.entries-entries.ensures s.unbroken) c.loop-i.i (omega arith) in
+    (rw (← c.at-e.ensures) at r.shallow, rw (← c.at-e.ensures) at (short_held c.entries-entries.result c.loop-i.i (omega arith)))
 
 pub loop-i-init : goal.loop-i-init
-loop-i-init c = (omega arith, omega (arith, most_none (width c.args.slots.now c.args.d)), omega arith)
+loop-i-init c = seen_none (rows_entries c.entries-entries.result)
 
-pub width-requires : goal.width-requires
-width-requires c = (omega arith, omega arith, c.requires.1)
+pub bounds-widest-depth : goal.bounds-widest-depth
+bounds-widest-depth c = let r = in_range c in omega arith
 
-pub larger-most-requires : goal.larger-most-requires
-larger-most-requires c = tt
+pub bounds-widest-depth-in-loop-i : goal.bounds-widest-depth-in-loop-i
+bounds-widest-depth-in-loop-i c = let r = in_range ((goal.at.bounds-widest-depth-in-loop-i c).After-at-e) in omega arith
 
 pub loop-i-preserved : goal.loop-i-preserved
-loop-i-preserved c = let a = c.args in let k = c.loop-i in
-    (omega arith, most_more (width a.slots.now a.d) k.i k.invariant.1 c.width.ensures.0 c.larger-most.ensures, omega arith)
+loop-i-preserved c =
+    let r = in_range ((goal.at.loop-i-preserved c).After-at-e) in
+    let s = c.loop-i.invariant in
+    seen_more _ c.loop-i.i c.loop-i.widest _ s c.at-e.ensures r.0 (omega arith) (omega arith) (omega (arith, s.small c.at-e.result.depth))
 
 pub returns : goal.returns
-returns c = let a = c.args in let k = c.loop-i in
-    (most-all (width a.slots.now a.d) k.i a.count (omega arith) (omega arith) k.invariant.1, omega arith)
+returns c = rw (← c.entries-entries.ensures) (seen_all (rows_entries c.entries-entries.result) c.loop-i.i c.loop-i.widest c.loop-i.invariant (omega arith))

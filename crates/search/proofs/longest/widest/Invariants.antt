@@ -1,12 +1,7 @@
--- What was passed is the most that a slot before i adds.
-use mathlib.Core.Path.{◌≡◌}
-use Prim.Native.Nat.{◌+◌, ◌-◌, ◌≤◌}
-use Rattle.scope.specs.Limits.{max_name}
-use Rattle.search.specs.Longest.{widest}
+-- The numbers cover the names of the entries passed.
+use Rattle.scope.specs.Sound.{rows_entries}
+use Rattle.search.proofs.WidthLaws.{Seen}
 use Rattle.search.proofs.longest.widest.Given as goal
 
 abbrev pub invariant-loop-i : goal.invariant-loop-i
-invariant-loop-i l = (l.i ≤ l.count) × (l.most ≡ widest l.slots l.i l.d) × (l.most ≤ max_name + 3)
-
-abbrev pub decreases-loop-i : goal.decreases-loop-i
-decreases-loop-i l = l.count - l.i
+invariant-loop-i l = Seen (rows_entries l.entries) l.i l.widest
