@@ -10,8 +10,8 @@ use lib.Dec.{ltb, eqb}
 use lib.ListN.{length, get_or, drop, drop_of_length-le}
 use lib.Seq.{drop-cons}
 use lib.Pointwise.{pointwise}
-use borrow.Author.Tests.{eq-eqb, ne_eqb, lt-ltb, le-ltb, ltb-false}
-use Rattle.reading.proofs.Test.{by_order, or_left, or_right}
+use borrow.Author.Tests.{eq-eqb, ne_eqb, lt-ltb, le-ltb, le-leb, ltb-true, ltb-false}
+use Rattle.reading.proofs.Test.{both, by_order, or_left, or_right}
 use Rattle.std.specs.List.{list_all}
 use Rattle.std.proofs.lemmas.Bool.Decides.{eqb_tells}
 use Rattle.text.specs.Classes.{is_scalar}
@@ -31,6 +31,15 @@ pub all_scalar_list : (cs : List ℕ) → all_scalar cs ≡ list_all is_scalar c
 unfolding all_scalar
 all_scalar_list [] = refl
 all_scalar_list (c ∷ cs) = ap (λ b. is_scalar c && b) (all_scalar_list cs)
+
+low_scalar : (c : ℕ) → c < 0xD800 → is_scalar c ≡ true
+unfolding is_scalar
+low_scalar c h = rw (le-leb 0 c (omega arith), le-leb c 0xD7FF (omega arith))
+
+-- Where all lie before the surrogates, all are scalar values.
+pub low_scalars : (cs : List ℕ) → list_all (λ c. ltb c 0xD800) cs ≡ true → true ≡ list_all is_scalar cs
+low_scalars [] h = refl
+low_scalars (c ∷ cs) h = rw (low_scalar c (ltb-true c 0xD800 (both (ltb c 0xD800) (list_all (λ c. ltb c 0xD800) cs) h).0)) (low_scalars cs (both (ltb c 0xD800) (list_all (λ c. ltb c 0xD800) cs) h).1)
 
 pub same_pointwise : (x y : List ℕ) → pointwise eqb x y ≡ same x y
 unfolding same

@@ -12,10 +12,18 @@ use crate::rows::Rows;
 use crate::scope::Scope;
 use text::classes::{Class, Scalar};
 
+// Whether all lie before the surrogates, as most do: then they are scalar values.
+fn are_low(cells: &[u32]) -> bool
+    ensures { result ≡ list_all (λ c. ltb c 0xD800) cells.now }
+{
+    cells.iter().all(|c| *c < 0xD800)
+}
+
+#[tactic(auto, using(crate::proofs::BrokenLaws::low_scalars))]
 fn are_scalars(cells: &[u32]) -> bool
     ensures { result ≡ list_all is_scalar cells.now }
 {
-    cells.iter().all(|c| Scalar::has(*c))
+    are_low(cells) || cells.iter().all(|c| Scalar::has(*c))
 }
 
 // Whether the cells are no name: over 128 characters, or one of them no scalar value.

@@ -1,6 +1,6 @@
 -- Flattened keys, level by level, as the code meets them.
 use mathlib.Core.Path.{◌≡◌, refl, sym, ◌∙◌}
-use mathlib.Core.Bool.{Bool, true, false, ◌&&◌, ◌||◌}
+use mathlib.Core.Bool.{Bool, true, false, ◌||◌}
 use mathlib.Core.List.{List, ◌++◌}
 use Prim.Native.Nat.{ℕ, zero, suc, ◌+◌, ◌-◌, ◌<◌, ◌≤◌}
 use native.Mathlib.Omega.{arith}
@@ -9,7 +9,7 @@ use borrow.Author.Tests.{eq-eqb, ne_eqb, lt-ltb, le-ltb}
 use Rattle.reading.specs.Codes.{codes}
 use Rattle.names.specs.Same.{same, member}
 use Rattle.scope.specs.Entries.{Entry}
-use Rattle.scope.specs.Keys.{keys_of, level, levels}
+use Rattle.scope.specs.Keys.{qualified, keys_of, level, levels}
 use Rattle.scope.specs.Viewed.{no_entry}
 use Rattle.search.specs.Rests.{leads}
 use Rattle.search.proofs.TextLaws.{member-append, member-qualified}
@@ -59,29 +59,28 @@ module _ (x : List ℕ) (f : List Entry → List (List ℕ)) (d : ℕ) (es : Lis
       level_missed t = level_here ∙ rw t
 
 -- One entry.
-module _ (x : List ℕ) (e : Entry) (es : List Entry) where
-  pub keys_itself : {b : Bool} (f : List Entry → List (List ℕ)) → b ≡ same e.name x → b ≡ true → member x (keys_of f e es) ≡ true
+module _ (x : List ℕ) (e : Entry) (es : List Entry) (f : List Entry → List (List ℕ)) {b : Bool} (p : b ≡ same e.name x) where
+  pub keys_itself : b ≡ true → member x (keys_of f e es) ≡ true
   unfolding keys_of member
-  keys_itself f p t = rw (sym p ∙ t)
+  keys_itself t = rw (sym p ∙ t)
 
-  module _ {b : Bool} (p : b ≡ same e.name x) (t : b ≡ false) where
-    pub keys_variable : (f : List Entry → List (List ℕ)) → (e.kind ≡ 1 → ⊥) → member x (keys_of f e es) ≡ false
+  module _ (t : b ≡ false) where
+    pub keys_variable : (e.kind ≡ 1 → ⊥) → member x (keys_of f e es) ≡ false
     unfolding keys_of member
-    keys_variable f k = rw (sym p ∙ t, ne_eqb _ _ k)
+    keys_variable k = rw (sym p ∙ t, ne_eqb _ _ k)
 
-    keys_context : (f : List Entry → List (List ℕ)) → e.kind ≡ 1 → member x (keys_of f e es) ≡ member x (f es) || (leads (e.name ++ dot) x && member (drop (length (e.name ++ dot)) x) (f es))
+    pub keys_context : e.kind ≡ 1 → member x (keys_of f e es) ≡ member x (qualified e.name (f es))
     unfolding keys_of member
-    keys_context f k = rw (sym p ∙ t, eq-eqb _ _ k) (member-qualified x e.name (f es))
+    keys_context k = rw (sym p ∙ t, eq-eqb _ _ k)
 
--- A context that is not the text itself; f has the keys of the level below.
-module _ (x : List ℕ) (e : Entry) (es : List Entry) (f : List Entry → List (List ℕ)) {b : Bool} (p : b ≡ same e.name x) (t : b ≡ false) (k : e.kind ≡ 1)
-    {h : Bool} (q : h ≡ member x (f es)) where
-  pub keys_found : h ≡ true → member x (keys_of f e es) ≡ true
-  keys_found u = keys_context x e es p t f k ∙ rw (sym q ∙ u)
+-- A context's keys, bare and behind its name.
+module _ (x n : List ℕ) (ks : List (List ℕ)) {h : Bool} (q : h ≡ member x ks) where
+  pub below_bare : h ≡ true → member x (qualified n ks) ≡ true
+  below_bare u = member-qualified x n ks ∙ rw (sym q ∙ u)
 
   module _ (u : h ≡ false) where
-    pub keys_none : leads (e.name ++ dot) x ≡ false → member x (keys_of f e es) ≡ false
-    keys_none v = keys_context x e es p t f k ∙ rw (sym q ∙ u, v)
+    pub below_none : leads (n ++ dot) x ≡ false → member x (qualified n ks) ≡ false
+    below_none v = member-qualified x n ks ∙ rw (sym q ∙ u, v)
 
-    pub keys_path : {y : List ℕ} → (leads (e.name ++ dot) x ≡ true) × (y ≡ drop (length (e.name ++ dot)) x) → {a : Bool} → a ≡ member y (f es) → a ≡ member x (keys_of f e es)
-    keys_path w g = g ∙ rw w.1 (sym (keys_context x e es p t f k ∙ rw (sym q ∙ u, w.0)))
+    pub below_path : {y : List ℕ} → (leads (n ++ dot) x ≡ true) × (y ≡ drop (length (n ++ dot)) x) → {a : Bool} → a ≡ member y ks → a ≡ member x (qualified n ks)
+    below_path w g = g ∙ rw w.1 (sym (member-qualified x n ks ∙ rw (sym q ∙ u, w.0)))

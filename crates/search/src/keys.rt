@@ -25,7 +25,7 @@ fn behind_dot<'a>(name: &[u32], text: &'a [u32]) -> Option<&'a [u32]>
 }
 
 // Whether the text is a key of the entries from `from` on at depth d, where so many levels are left, that of depth d among them.
-#[cycle(entry_has_has)]
+#[cycle(below_has_entry_has_has)]
 fn has(entries: Rows, from: usize, d: u32, levels: usize, text: &[u32]) -> bool
     requires { (from ≤ length (rows_entries entries)) × (d + levels ≤ max_depth + 1) }
     ensures { result ≡ member text.now (spec.levels levels d (drop from (rows_entries entries.entry))) }
@@ -46,7 +46,7 @@ fn has(entries: Rows, from: usize, d: u32, levels: usize, text: &[u32]) -> bool
 }
 
 // The same of the entry at i and those below it.
-#[cycle(entry_has_has)]
+#[cycle(below_has_entry_has_has)]
 fn entry_has(entries: Rows, i: usize, d: u32, levels: usize, text: &[u32]) -> bool
     requires { (i < length (rows_entries entries)) × (0 < levels) × (d + levels ≤ max_depth + 1) }
     ensures { result ≡ member text.now (spec.keys_of (spec.levels (levels - 1) (d + 1)) (get_or (rows_entries entries.entry) i no_entry) (drop (i + 1) (rows_entries entries.entry))) }
@@ -58,11 +58,21 @@ fn entry_has(entries: Rows, i: usize, d: u32, levels: usize, text: &[u32]) -> bo
     if e.kind != u32::from(Kind::Context) {
         return false;
     }
+    below_has(entries, i, d, levels, text)
+}
+
+// The same of the entries below the context at i, whose keys stand bare and behind its name.
+#[cycle(below_has_entry_has_has)]
+#[inline(never)] // The walk over a level seldom comes here.
+fn below_has(entries: Rows, i: usize, d: u32, levels: usize, text: &[u32]) -> bool
+    requires { (i < length (rows_entries entries)) × (0 < levels) × (d + levels ≤ max_depth + 1) }
+    ensures { result ≡ member text.now (spec.qualified (get_or (rows_entries entries.entry) i no_entry).name (spec.levels (levels - 1) (d + 1) (drop (i + 1) (rows_entries entries.entry)))) }
+{
     let below = i + 1;
     if has(entries, below, d + 1, levels - 1, text) {
         return true;
     }
-    match behind_dot(e.name, text) {
+    match behind_dot(entries.at(i).name, text) {
         Some(rest) => has(entries, below, d + 1, levels - 1, rest),
         None => false,
     }
