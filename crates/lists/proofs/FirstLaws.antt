@@ -1,12 +1,11 @@
 -- Names counted where they are first seen are as many as are left after replacing.
 -- Carried by the entries that wait: seen, not cut off, and standing again behind. An entry adds itself if it stands again, and takes out the one that waited for it.
 use mathlib.Core.Path.{◌≡◌, refl, sym, ◌∙◌, ap}
-use mathlib.Core.Bool.{Bool, true, false, cond, ◌&&◌, ◌||◌, false≢true}
+use mathlib.Core.Bool.{Bool, true, false, cond, ◌&&◌, ◌||◌, not, false≢true}
 use mathlib.Core.List.{List, [], ◌∷◌, ◌++◌}
 use Prim.Native.Nat.{ℕ, suc, ◌+◌, ◌-◌, ◌<◌, ◌≤◌}
 use native.Mathlib.Omega.{arith}
-use native.Mathlib.Numerals.{add-one}
-use lib.Dec.{eqb}
+use lib.Dec.{eqb, ltb}
 use lib.ListN.{length, get_or, drop}
 use borrow.Author.Tests.{eq-eqb, ne_eqb, eqb-true, le-leb, lt-leb, lt-ltb, le-ltb, ltb-false}
 use Rattle.reading.proofs.Test.{by_order, both}
@@ -15,14 +14,14 @@ use Rattle.names.proofs.SameLaws.{eqb_sym, same_sym}
 use Rattle.scope.specs.Limits.{max_depth}
 use Rattle.scope.specs.Entries.{Entry}
 use Rattle.scope.specs.Settled.{is_repeated, settled_from, settled}
-use Rattle.scope.specs.Lent.{spanned, listed}
+use Rattle.scope.specs.Lent.{listed}
 use Rattle.scope.specs.Rows.{earlier}
 use Rattle.scope.specs.Listing.{keep}
-use Rattle.scope.proofs.SearchLaws.{Step, and_none}
-use Rattle.scope.proofs.ListLaws.{listed-step, listed-end}
+use Rattle.scope.proofs.SearchLaws.{Step}
+use Rattle.scope.specs.Viewed.{no_entry}
+use Rattle.scope.proofs.BrokenLaws.{entries_end, entry_step, earlier_more, earlier_one}
 use Rattle.lists.specs.Firsts.{fresh, is_above, cut_behind, firsts}
 use Rattle.lists.proofs.OneContext.{AllIn, listed_in}
-use Rattle.lists.proofs.ParentLaws.{earlier-one}
 
 same_equal : (x y : List ℕ) → same x y ≡ true → x ≡ y
 unfolding same
@@ -232,38 +231,14 @@ behind_cut cut e es h j = rw (lt-leb cut e.depth h) (go (is_above e es && is_rep
     go true = (omega arith, omega arith)
     go false = (omega arith, omega arith)
 
--- One entry, as the code meets it.
-module _ (cut : ℕ) (e : Entry) where
-  module _ (before : List Entry) where
-    pub fresh_cut : cut ≤ e.depth → 0 ≡ fresh cut e before
-    unfolding fresh
-    fresh_cut h = rw (le-leb cut e.depth h)
+-- One entry.
+fresh_cut : (cut : ℕ) (e : Entry) (before : List Entry) → cut ≤ e.depth → 0 ≡ fresh cut e before
+unfolding fresh
+fresh_cut cut e before h = rw (le-leb cut e.depth h)
 
-    pub fresh-seen : e.depth < cut → {b : Bool} → b ≡ is_repeated e before → b ≡ true → 0 ≡ fresh cut e before
-    unfolding fresh
-    fresh-seen h p t = rw (lt-leb cut e.depth h, sym p ∙ t)
-
-    pub fresh-new : e.depth < cut → {b : Bool} → b ≡ is_repeated e before → b ≡ false → 1 ≡ fresh cut e before
-    unfolding fresh
-    fresh-new h p t = rw (lt-leb cut e.depth h, sym p ∙ t)
-
-  module _ (es : List Entry) where
-    pub behind_inside : cut ≤ e.depth → cut ≡ cut_behind cut e es
-    unfolding cut_behind
-    behind_inside h = rw (le-leb cut e.depth h)
-
-    module _ (h : e.depth < cut) where
-      pub behind-flat : is_above e es ≡ false → suc max_depth ≡ cut_behind cut e es
-      unfolding cut_behind
-      behind-flat a = rw (lt-leb cut e.depth h, a)
-
-      pub behind_replaced : is_above e es ≡ true → {b : Bool} → b ≡ is_repeated e es → b ≡ true → e.depth + 1 ≡ cut_behind cut e es
-      unfolding cut_behind
-      behind_replaced a p t = rw (lt-leb cut e.depth h, a, sym p ∙ t, add-one)
-
-      pub behind-kept : {b : Bool} → b ≡ is_repeated e es → b ≡ false → suc max_depth ≡ cut_behind cut e es
-      unfolding cut_behind
-      behind-kept p t = rw (lt-leb cut e.depth h, sym p ∙ t, and_none (is_above e es))
+behind_inside : (cut : ℕ) (e : Entry) (es : List Entry) → cut ≤ e.depth → cut ≡ cut_behind cut e es
+unfolding cut_behind
+behind_inside cut e es h = rw (le-leb cut e.depth h)
 
 -- What an entry adds, by what its name did before and does behind.
 sum : (x y : Bool) (more o : ℕ) {new w left rest whole seen : ℕ} → new ≡ cond x 0 1 → seen ≡ one x → w ≡ seen + o → left ≡ one y + o → more + left ≡ rest → whole ≡ cond y 0 1 + rest → new + more + w ≡ whole
@@ -309,49 +284,32 @@ module _ (k : ℕ) where
   firsts-settled : (es : List Entry) → AllIn k es → firsts (suc max_depth) [] es ≡ length (settled es)
   firsts-settled es a = omega (arith, firsts_from (suc max_depth) [] es [] a (omega arith) (none_yet es))
 
--- The loops, by index.
-module _ (k : ℕ) (cs : List ℕ) (rs : List (List ℕ)) where
-  module _ (e : Entry) (own : e.context ≡ k) (j : ℕ) where
-    pub seen_none : j ≡ 0 → is_repeated e (earlier j (listed k cs rs) []) ≡ false
-    unfolding is_repeated earlier
-    seen_none z = rw z
+-- The search among the earlier entries, at the one before j.
+module _ (es : List Entry) (j : ℕ) (e : Entry) where
+  pub seen_none : j ≡ 0 → is_repeated e (earlier j es []) ≡ false
+  unfolding is_repeated earlier
+  seen_none z = rw z
 
-    module _ (z : 0 < j) (l : j ≤ length rs) where
-      seen_parts : earlier j (listed k cs rs) [] ≡ spanned k cs (get_or rs (j - 1) []) ∷ earlier (j - 1) (listed k cs rs) []
-      seen_parts = let q : j ≡ suc (j - 1) = omega arith in ap (λ x. earlier x (listed k cs rs) []) q ∙ earlier-one k cs rs (j - 1) (omega arith)
+  module _ {f : Entry} (at : f ≡ get_or es (j - 1) no_entry) (z : 0 < j) (h : j ≤ length es) {b : Bool} (q : b ≡ (not (eqb f.context e.context) || ltb f.depth e.depth)) where
+    pub seen_ends : b ≡ true → is_repeated e (earlier j es []) ≡ false
+    unfolding is_repeated
+    seen_ends t = rw (earlier_one es j at z h, sym q ∙ t)
 
-      pub seen-ends : get_or (get_or rs (j - 1) []) 0 0 < e.depth → is_repeated e (earlier j (listed k cs rs) []) ≡ false
-      seen-ends m = ap (is_repeated e) seen_parts ∙ stop_lower e (spanned k cs (get_or rs (j - 1) [])) (earlier (j - 1) (listed k cs rs) []) (sym own) m
+    pub seen_step : b ≡ false → Step (is_repeated e (earlier j es [])) (eqb f.depth e.depth && same f.name e.name) (is_repeated e (earlier (j - 1) es []))
+    unfolding is_repeated
+    seen_step t = record { parts = rw (earlier_one es j at z h, sym q ∙ t) }
 
-      pub seen_step : e.depth ≤ get_or (get_or rs (j - 1) []) 0 0
-          → Step (is_repeated e (earlier j (listed k cs rs) [])) (eqb (spanned k cs (get_or rs (j - 1) [])).depth e.depth && same (spanned k cs (get_or rs (j - 1) [])).name e.name) (is_repeated e (earlier (j - 1) (listed k cs rs) []))
-      seen_step m = record { parts = ap (is_repeated e) seen_parts ∙ here_or_on e (spanned k cs (get_or rs (j - 1) [])) (earlier (j - 1) (listed k cs rs) []) (sym own) m }
+-- The count, by index.
+module _ (es : List Entry) (cut i : ℕ) where
+  pub firsts_end : length es ≤ i → firsts cut (earlier i es []) (drop i es) ≡ 0
+  unfolding firsts
+  firsts_end h = rw (entries_end es i h)
 
-  module _ (e : Entry) (i : ℕ) where
-    pub above_end : length rs ≤ i → is_above e (drop i (listed k cs rs)) ≡ false
-    unfolding is_above
-    above_end h = rw (listed-end k cs rs i h)
+  pub firsts_step : i < length es → {m c : ℕ} → m ≡ fresh cut (get_or es i no_entry) (earlier i es []) → c ≡ cut_behind cut (get_or es i no_entry) (drop (i + 1) es)
+      → firsts cut (earlier i es []) (drop i es) ≡ m + firsts c (earlier (i + 1) es []) (drop (i + 1) es)
+  unfolding firsts
+  firsts_step h p q = rw (p, q, earlier_more es i refl h, entry_step es i refl h)
 
-    pub above_not : i < length rs → get_or (get_or rs i []) 0 0 ≤ e.depth → is_above e (drop i (listed k cs rs)) ≡ false
-    unfolding is_above
-    above_not h l = rw (listed-step k cs rs i h, le-ltb e.depth (get_or (get_or rs i []) 0 0) l)
-
-    pub above_next : i < length rs → e.depth < get_or (get_or rs i []) 0 0 → is_above e (drop i (listed k cs rs)) ≡ true
-    unfolding is_above
-    above_next h l = rw (listed-step k cs rs i h, lt-ltb e.depth (get_or (get_or rs i []) 0 0) l)
-
-  module _ (cut i : ℕ) where
-    pub firsts-end : length rs ≤ i → firsts cut (earlier i (listed k cs rs) []) (drop i (listed k cs rs)) ≡ 0
-    unfolding firsts
-    firsts-end h = rw (listed-end k cs rs i h)
-
-    pub firsts-step : i < length rs → {m c : ℕ} → m ≡ fresh cut (spanned k cs (get_or rs i [])) (earlier i (listed k cs rs) []) → c ≡ cut_behind cut (spanned k cs (get_or rs i [])) (drop (i + 1) (listed k cs rs))
-        → firsts cut (earlier i (listed k cs rs) []) (drop i (listed k cs rs)) ≡ m + firsts c (earlier (i + 1) (listed k cs rs) []) (drop (i + 1) (listed k cs rs))
-    unfolding firsts
-    firsts-step h p q =
-        let z : earlier (i + 1) (listed k cs rs) [] ≡ spanned k cs (get_or rs i []) ∷ earlier i (listed k cs rs) [] = rw add-one (earlier-one k cs rs i h) in
-        rw (p, q, z, listed-step k cs rs i h)
-
-  pub firsts-all : firsts (suc max_depth) (earlier 0 (listed k cs rs) []) (listed k cs rs) ≡ length (settled (listed k cs rs))
-  unfolding earlier
-  firsts-all = firsts-settled k (listed k cs rs) (listed_in k cs rs)
+pub firsts_all : (k : ℕ) (cs : List ℕ) (rs : List (List ℕ)) → firsts (suc max_depth) (earlier 0 (listed k cs rs) []) (listed k cs rs) ≡ length (settled (listed k cs rs))
+unfolding earlier
+firsts_all k cs rs = firsts-settled k (listed k cs rs) (listed_in k cs rs)

@@ -1,3 +1,2 @@
 pub mod OneContext
-pub mod ParentLaws
 pub mod FirstLaws

@@ -1,2 +1,2 @@
-pub mod Parented
 pub mod Firsts
+pub mod List

@@ -3,3 +3,4 @@
 #![tactic(auto)]
 
 pub mod list; // list.rt: the rows of a list
+pub mod settling; // settling.rt: what is left of them after replacing
