@@ -5,6 +5,7 @@ ghost use Rattle.scope.specs.Answers.{lent, answer_of, Kept, Whole};
 ghost use Rattle.cases.specs.Calls.{number_of};
 ghost use Rattle.cases.specs.After.{call_of};
 
+use scope::lent::Lent;
 use scope::scope::{Listed, Scope, Slot};
 use text::refusal::Refusal;
 
@@ -49,7 +50,11 @@ impl Call {
     {
         match self {
             Call::Push => scope_calls::push::push(s, slots, names, rows, cells),
-            Call::Pop => scope_calls::stack::pop(s, slots, names),
+            Call::Pop => scope_calls::stack::pop(Lent {
+                counts: s,
+                slots,
+                names,
+            }),
             Call::SetEntryName => scope_calls::naming::set_entry_name(s, slots, names, name),
             Call::SetContext => {
                 scope_calls::naming::set_context(s, slots, names, name, rows, cells)

@@ -7,6 +7,7 @@ ghost use Rattle.scope.specs.Lent.{push_list, set_context_list};
 ghost use Rattle.feel_lexer.specs.Exported.{Called, ScopeCall, ScopeOpened};
 
 use crate::{answer, state};
+use scope::lent::Lent;
 use scope::scope::{Listed, Scope, Slot};
 use text::refusal::Refusal;
 
@@ -53,7 +54,13 @@ pub extern "C" fn feel_scope_push_default(
     answer::number(called(
         scope,
         answer,
-        &mut |s| scope_calls::stack::push_default(s, slots, names),
+        &mut |counts| {
+            scope_calls::stack::push_default(Lent {
+                counts,
+                slots,
+                names,
+            })
+        },
     ))
 }
 
@@ -91,7 +98,13 @@ pub extern "C" fn feel_scope_pop(
     answer::number(called(
         scope,
         answer,
-        &mut |s| scope_calls::stack::pop(s, slots, names),
+        &mut |counts| {
+            scope_calls::stack::pop(Lent {
+                counts,
+                slots,
+                names,
+            })
+        },
     ))
 }
 

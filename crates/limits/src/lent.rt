@@ -1,5 +1,6 @@
 // Lists and scopes that no case gives.
 use crate::answers::Answer;
+use scope::lent::Lent;
 use scope::scope::{Scope, Slot};
 use scope_calls::{push, stack};
 use std::io;
@@ -24,12 +25,16 @@ fn popped(
     slots: &[[u32; Slot::NUMBERS]],
     names: &[[u32; Scope::MAX_NAME]],
 ) -> io::Result<()> {
-    let s = Scope {
+    let counts = Scope {
         contexts,
         entries,
         parsed: 0,
     };
-    let answer = Answer(stack::pop(s, slots, names));
+    let answer = Answer(stack::pop(Lent {
+        counts,
+        slots,
+        names,
+    }));
     println!(rt; "{words}: {answer}")
 }
 

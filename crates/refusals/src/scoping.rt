@@ -1,6 +1,7 @@
 // The scope calls refused: a broken scope, list or name, and the limits.
 use crate::told::Refused;
 use crate::{filled, lent, told};
+use scope::lent::Lent;
 use scope::scope::{Listed, Scope, Slot};
 use scope_calls::{naming, parsed, push, stack};
 use std::fmt::Display;
@@ -139,14 +140,20 @@ fn trials<
 }
 
 // A call that writes nothing, on an empty scope of so many contexts.
-fn trial<
-    C: Fn(Scope, &[[u32; Slot::NUMBERS]], &[[u32; Scope::MAX_NAME]]) -> Result<Scope, Refusal>,
->(rt: &impl Print, words: &str, call: &C, contexts: usize) -> io::Result<()>
+fn trial<C: Fn(Lent) -> Result<Scope, Refusal>>(
+    rt: &impl Print,
+    words: &str,
+    call: &C,
+    contexts: usize,
+) -> io::Result<()>
     requires { C.IsAlwaysCallable call.now }
 {
-    let slots = lent::slots();
-    let names = lent::names();
-    let answer = Answer(call(told::empty_scope(contexts), &slots, &names));
+    let empty = Lent {
+        counts: told::empty_scope(contexts),
+        slots: &lent::slots(),
+        names: &lent::names(),
+    };
+    let answer = Answer(call(empty));
     println!(rt; "{words} {contexts}: {answer}")
 }
 

@@ -49,36 +49,41 @@ module _ {ss ns ss' ns' : List (List ℕ)} (k n : ℕ) (e : Entry) (few : k ≤ 
   pub one_parsed : parsed_names (n + 1) ss' ns' ≡ parsed_names n ss ns ++ (e.name ∷ [])
   one_parsed = rw one-held (names_snoc (held n (drop max_entries ss) (drop max_entries ns)) e)
 
-module _ (x : List ℕ) (s : Scope) (ss ns : List (List ℕ)) {b : Bool} (p : b ≡ is_broken (lent s ss ns)) (t : b ≡ false) {c : Bool} (q : c ≡ is_broken_name x) where
-  pub add_broken : c ≡ true → refused broken_scope ≡ on_scope (lent s ss ns) (add_parsed_name x)
+-- Whether a name is one of the parsed ones of the scope that was lent, as it is asked of the checked one.
+pub known_as : (x : List ℕ) {b t : Bool} {ps : List (List ℕ)} {s' s : Scope} {ss' ss ns' ns : List (List ℕ)} {R : Type 0} → b ≡ member x (drop 0 ps) → ps ≡ parsed_names s'.parsed ss' ns' → (s' ≡ s) × (ss' ≡ ss) × (ns' ≡ ns) × R → b ≡ t
+    → member x (parsed_names s.parsed ss ns) ≡ t
+known_as x q e p t = sym (q ∙ ap (member x) (e ∙ rw (p.0, p.1, p.2))) ∙ t
+
+module _ (x : List ℕ) (s : Scope) (ss ns : List (List ℕ)) (ok : is_broken (lent s ss ns) ≡ false) where
+  pub add_broken : is_broken_name x ≡ true → refused broken_scope ≡ on_scope (lent s ss ns) (add_parsed_name x)
   unfolding add_parsed_name
-  add_broken u = rw (sym p ∙ t, sym q ∙ u)
+  add_broken u = rw (ok, u)
 
-  module _ (u : c ≡ false) {m : Bool} (r : m ≡ member x (parsed_names s.parsed ss ns)) where
-    pub add_known : m ≡ true → changed (scope_of (lent s ss ns)) ≡ on_scope (lent s ss ns) (add_parsed_name x)
+  module _ (u : is_broken_name x ≡ false) where
+    pub add_known : member x (parsed_names s.parsed ss ns) ≡ true → changed (scope_of (lent s ss ns)) ≡ on_scope (lent s ss ns) (add_parsed_name x)
     unfolding add_parsed_name
-    add_known v = rw (sym p ∙ t, sym q ∙ u, sym r ∙ v)
+    add_known v = rw (ok, u, v)
 
-    module _ (v : m ≡ false) where
+    module _ (v : member x (parsed_names s.parsed ss ns) ≡ false) where
       count : length (parsed_names s.parsed ss ns) ≡ s.parsed
       count =
-          let w = (sound (lent s ss ns) (sym p ∙ t)).limits in
+          let w = (sound (lent s ss ns) ok).limits in
           names_length (held s.parsed (drop max_entries ss) (drop max_entries ns)) ∙ held-length s.parsed (drop max_entries ss) (drop max_entries ns) (rw length-drop (omega arith)) (rw length-drop (omega arith))
 
       pub add_full : max_parsed ≤ s.parsed → refused over_limit ≡ on_scope (lent s ss ns) (add_parsed_name x)
       unfolding add_parsed_name
-      add_full f = rw (sym p ∙ t, sym q ∙ u, sym r ∙ v, count, lt-ltb max_parsed (suc s.parsed) (omega arith))
+      add_full f = rw (ok, u, v, count, lt-ltb max_parsed (suc s.parsed) (omega arith))
 
       pub add_new : {ss' ns' : List (List ℕ)} (d k l : ℕ) → s.parsed < max_parsed
           → Appended ss ns ss' ns' (max_entries + s.parsed) (max_entries + s.parsed + 1) (record { context = d; depth = k; kind = l; name = x } ∷ [])
           → changed (scope_of (lent (record { contexts = s.contexts; entries = s.entries; parsed = s.parsed + 1 }) ss' ns')) ≡ on_scope (lent s ss ns) (add_parsed_name x)
       unfolding add_parsed_name
       add_new d k l f a =
-          let w = (sound (lent s ss ns) (sym p ∙ t)).limits in
+          let w = (sound (lent s ss ns) ok).limits in
           rw (
-            sym p ∙ t,
-            sym q ∙ u,
-            sym r ∙ v,
+            ok,
+            u,
+            v,
             count,
             le-ltb max_parsed (suc s.parsed) (omega arith),
             same_entries s.entries s.parsed (record { context = d; depth = k; kind = l; name = x }) (omega arith) (omega arith) (omega arith) a,
@@ -89,4 +94,4 @@ module _ (x : List ℕ) (s : Scope) (ss ns : List (List ℕ)) {b : Bool} (p : b 
           → Appended ss ns ss' ns' (max_entries + s.parsed) (max_entries + s.parsed + 1) (record { context = d; depth = k; kind = l; name = x } ∷ [])
           → is_broken (lent (record { contexts = s.contexts; entries = s.entries; parsed = s.parsed + 1 }) ss' ns') ≡ false
       add_whole {ss'} {ns'} d k l f a =
-          whole (lent s ss ns) (lent (record { contexts = s.contexts; entries = s.entries; parsed = s.parsed + 1 }) ss' ns') (add_parsed_name x) (λ z y. parsed_leaves z y x) (add_new d k l f a) (fits_parsed (sound (lent s ss ns) (sym p ∙ t)) f a)
+          whole (lent s ss ns) (lent (record { contexts = s.contexts; entries = s.entries; parsed = s.parsed + 1 }) ss' ns') (add_parsed_name x) (λ z y. parsed_leaves z y x) (add_new d k l f a) (fits_parsed (sound (lent s ss ns) ok) f a)

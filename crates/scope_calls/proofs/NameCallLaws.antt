@@ -1,10 +1,10 @@
 -- Naming in the last context, as the calls answer it.
 use mathlib.Core.Path.{◌≡◌, sym, ◌∙◌, ap}
-use mathlib.Core.Bool.{Bool, true, false}
+use mathlib.Core.Bool.{true, false}
 use mathlib.Core.List.{List, [], ◌∷◌, ◌++◌, map, append_assoc}
 use Prim.Native.Nat.{ℕ, suc, ◌+◌, ◌-◌, ◌<◌, ◌≤◌}
 use native.Mathlib.Omega.{arith}
-use lib.ListN.{length, drop, length-append}
+use lib.ListN.{length, take, drop, length-append}
 use borrow.Author.Tests.{eq-eqb, ne_eqb, lt-ltb, le-ltb}
 use Rattle.text.specs.Refusals.{broken_scope, over_limit}
 use Rattle.scope.specs.declared.scope.Scope.{Scope}
@@ -27,37 +27,57 @@ use Rattle.scope_calls.proofs.SettlesLaws.{AllBelow, top_in, top_distinct, settl
 use Rattle.scope_calls.proofs.DeeperLaws.{list_below, deeper-raised, settled_below}
 use Rattle.scope_calls.proofs.AppendLaws.{map-length}
 use Rattle.scope_calls.proofs.NamingLaws.{moved_appended}
+use Rattle.scope_calls.proofs.StackLaws.{held_count}
+use Rattle.scope_calls.proofs.WrittenLaws.{take-held}
 
-module _ (s : Scope) (ss ns : List (List ℕ)) {b : Bool} (p : b ≡ is_broken (lent s ss ns)) (t : b ≡ false) (x : List ℕ) (kind : ℕ) (tail : List Entry) where
+-- What a call has found before it writes: where the last context begins, and how many of its entries stay.
+pub record Found (s : Scope) (ss ns : List (List ℕ)) (x : List ℕ) (from left : ℕ) : Type 0 where
+  pub few : from ≤ s.entries
+  pub within : from + left ≤ s.entries
+  pub under : take from (held s.entries ss ns) ≡ under s.contexts (held s.entries ss ns)
+  pub top : drop from (held s.entries ss ns) ≡ top s.contexts (held s.entries ss ns)
+  pub stay : left ≡ length (without (suc max_depth) x (drop from (held s.entries ss ns)))
+
+pub found : (s : Scope) (ss ns : List (List ℕ)) → is_broken (lent s ss ns) ≡ false → (x : List ℕ) {from left : ℕ} {es : List Entry} → es ≡ held s.entries ss ns
+    → (from ≤ length es) × (take from es ≡ under s.contexts es) × (drop from es ≡ top s.contexts es) → (from + left ≤ length es) × (left ≡ length (without (suc max_depth) x (drop from es))) → Found s ss ns x from left
+found s ss ns ok x e b l =
+    let b₁ = rw e at b in
+    let l₁ = rw e at l in
+    record { few = rw (held_count s ss ns ok) at b₁.0; within = rw (held_count s ss ns ok) at l₁.0; under = b₁.1; top = b₁.2; stay = l₁.1 }
+
+module _ (s : Scope) (ss ns : List (List ℕ)) (ok : is_broken (lent s ss ns) ≡ false) (x : List ℕ) (kind : ℕ) (tail : List Entry) where
   abbrev pub new : Entry
   new = record { context = s.contexts; depth = 0; kind = kind; name = x }
 
   pub added_empty : s.contexts ≡ 0 → changed (scope_of (lent s ss ns)) ≡ added (new ∷ tail) (scope_of (lent s ss ns))
   added_empty z = rw (eq-eqb _ _ z)
 
-  module _ (z : s.contexts ≡ 0 → ⊥) (deep : AllBelow s.contexts tail) {from : ℕ} (few : from ≤ s.entries) (u : held from ss ns ≡ under s.contexts (held s.entries ss ns))
-      (v : drop from (held s.entries ss ns) ≡ top s.contexts (held s.entries ss ns)) where
+  module _ (z : s.contexts ≡ 0 → ⊥) (deep : AllBelow s.contexts tail) {from left : ℕ} (f : Found s ss ns x from left) where
+    u : held from ss ns ≡ under s.contexts (held s.entries ss ns)
+    u = sym (take-held from s.entries ss ns f.few) ∙ f.under
+
     parts : under s.contexts (held s.entries ss ns) ++ settled (top s.contexts (held s.entries ss ns) ++ (new ∷ tail))
         ≡ held from ss ns ++ (without (suc max_depth) x (drop from (held s.entries ss ns)) ++ (new ∷ settled tail))
     parts =
-        let k = sound (lent s ss ns) (sym p ∙ t) in
-        rw (u, v, settles s.contexts kind x tail deep (suc max_depth) (top s.contexts (held s.entries ss ns)) (top_in s.contexts 1 (held s.entries ss ns) k.placed) (top_distinct s.contexts (held s.entries ss ns) k.distinct) (omega arith))
+        let k = sound (lent s ss ns) ok in
+        rw (u, f.top, settles s.contexts kind x tail deep (suc max_depth) (top s.contexts (held s.entries ss ns)) (top_in s.contexts 1 (held s.entries ss ns) k.placed) (top_distinct s.contexts (held s.entries ss ns) k.distinct) (omega arith))
 
-    module _ {left : ℕ} (n : left ≡ length (without (suc max_depth) x (drop from (held s.entries ss ns)))) (m : ℕ) (r : m ≡ length (settled tail)) where
+    module _ (m : ℕ) (r : m ≡ length (settled tail)) where
       total : length (held from ss ns ++ (without (suc max_depth) x (drop from (held s.entries ss ns)) ++ (new ∷ settled tail))) ≡ from + (left + suc m)
       total =
-          let k = (sound (lent s ss ns) (sym p ∙ t)).limits in
-          length-append (held from ss ns) _ ∙ rw (held-length from ss ns (omega arith) (omega arith), length-append, ← n, ← r)
+          let k = (sound (lent s ss ns) ok).limits in
+          let few = f.few in
+          length-append (held from ss ns) _ ∙ rw (held-length from ss ns (omega arith) (omega arith), length-append, ← f.stay, ← r)
 
       pub added_full : max_entries ≤ from + left + m → refused over_limit ≡ added (new ∷ tail) (scope_of (lent s ss ns))
       added_full h =
-          let k = (sound (lent s ss ns) (sym p ∙ t)).limits in
+          let k = (sound (lent s ss ns) ok).limits in
           rw (ne_eqb _ _ z, le-ltb max_contexts s.contexts (omega arith), parts, total, lt-ltb max_entries (from + (left + suc m)) (omega arith))
 
       pub added_done : {ss' ns' : List (List ℕ)} {to : ℕ} → from + left + m < max_entries → Moved ss ns ss' ns' from to max_entries (without (suc max_depth) x (drop from (held s.entries ss ns)) ++ (new ∷ settled tail))
           → changed (scope_of (lent (record { contexts = s.contexts; entries = to; parsed = s.parsed }) ss' ns')) ≡ added (new ∷ tail) (scope_of (lent s ss ns))
       added_done h a =
-          let k = (sound (lent s ss ns) (sym p ∙ t)).limits in
+          let k = (sound (lent s ss ns) ok).limits in
           rw (ne_eqb _ _ z, le-ltb max_contexts s.contexts (omega arith), parts, total, le-ltb max_entries (from + (left + suc m)) (omega arith), a.reads, a.slots_behind, a.names_behind)
 
       pub added_whole : {ss' ns' : List (List ℕ)} {to : ℕ} → from + left + m < max_entries → Moved ss ns ss' ns' from to max_entries (without (suc max_depth) x (drop from (held s.entries ss ns)) ++ (new ∷ settled tail))
@@ -65,53 +85,52 @@ module _ (s : Scope) (ss ns : List (List ℕ)) {b : Bool} (p : b ≡ is_broken (
           → changed (scope_of (lent (record { contexts = s.contexts; entries = to; parsed = s.parsed }) ss' ns')) ≡ on_scope (lent s ss ns) call
           → is_broken (lent (record { contexts = s.contexts; entries = to; parsed = s.parsed }) ss' ns') ≡ false
       added_whole {ss'} {ns'} {to} h a call keeps e =
-          let k = sound (lent s ss ns) (sym p ∙ t) in
+          let k = sound (lent s ss ns) ok in
           let l = k.limits in
-          let room : to ≤ max_entries = omega (arith, a.place, length-append (without (suc max_depth) x (drop from (held s.entries ss ns))) (new ∷ settled tail)) in
+          let room : to ≤ max_entries = omega (arith, a.place, f.stay, length-append (without (suc max_depth) x (drop from (held s.entries ss ns))) (new ∷ settled tail)) in
           whole (lent s ss ns) (lent (record { contexts = s.contexts; entries = to; parsed = s.parsed }) ss' ns') call keeps e
-          (fits_written k s.contexts from to (omega arith) few room a.as_many_slots a.as_many_names a.short a.slots_behind)
+          (fits_written k s.contexts from to (omega arith) f.few room a.as_many_slots a.as_many_names a.short a.slots_behind)
 
-module _ (s : Scope) (ss ns : List (List ℕ)) {b : Bool} (p : b ≡ is_broken (lent s ss ns)) (t : b ≡ false) (x : List ℕ) {c : Bool} (q : c ≡ is_broken_name x) where
-  pub entry_broken : c ≡ true → refused broken_scope ≡ on_scope (lent s ss ns) (set_entry_name x)
+module _ (s : Scope) (ss ns : List (List ℕ)) (ok : is_broken (lent s ss ns) ≡ false) (x : List ℕ) where
+  pub entry_broken : is_broken_name x ≡ true → refused broken_scope ≡ on_scope (lent s ss ns) (set_entry_name x)
   unfolding set_entry_name
-  entry_broken u = rw (sym p ∙ t, sym q ∙ u)
+  entry_broken u = rw (ok, u)
 
-  pub entry-added : c ≡ false → {r : Changed} → r ≡ added (record { context = s.contexts; depth = 0; kind = variable; name = x } ∷ []) (scope_of (lent s ss ns)) → r ≡ on_scope (lent s ss ns) (set_entry_name x)
+  pub entry-added : is_broken_name x ≡ false → {r : Changed} → r ≡ added (record { context = s.contexts; depth = 0; kind = variable; name = x } ∷ []) (scope_of (lent s ss ns)) → r ≡ on_scope (lent s ss ns) (set_entry_name x)
   unfolding set_entry_name
-  entry-added u e = e ∙ rw (sym p ∙ t, sym q ∙ u)
+  entry-added u e = e ∙ rw (ok, u)
 
-module _ (s : Scope) (ss ns : List (List ℕ)) {b : Bool} (p : b ≡ is_broken (lent s ss ns)) (t : b ≡ false) (x cs : List ℕ) (rs : List (List ℕ)) {o : Bool} (q : o ≡ any_outside cs rs) where
-  pub context_outside : o ≡ true → refused broken_scope ≡ on_scope (lent s ss ns) (set_context_list x cs rs)
-  context_outside u = rw (sym p ∙ t, sym q ∙ u)
+module _ (s : Scope) (ss ns : List (List ℕ)) (ok : is_broken (lent s ss ns) ≡ false) (x cs : List ℕ) (rs : List (List ℕ)) where
+  pub context_outside : any_outside cs rs ≡ true → refused broken_scope ≡ on_scope (lent s ss ns) (set_context_list x cs rs)
+  context_outside u = rw (ok, u)
 
-  module _ (u : o ≡ false) {c : Bool} (r : c ≡ is_broken_name x) where
-    pub context_name : c ≡ true → refused broken_scope ≡ on_scope (lent s ss ns) (set_context_list x cs rs)
+  module _ (u : any_outside cs rs ≡ false) where
+    pub context_name : is_broken_name x ≡ true → refused broken_scope ≡ on_scope (lent s ss ns) (set_context_list x cs rs)
     unfolding set_context
-    context_name v = rw (sym p ∙ t, sym q ∙ u, list_below s.contexts x (listed s.contexts cs rs) (listed_in s.contexts cs rs), sym r ∙ v)
+    context_name v = rw (ok, u, list_below s.contexts x (listed s.contexts cs rs) (listed_in s.contexts cs rs), v)
 
-    module _ (v : c ≡ false) {w : Bool} (m : (k : ℕ) → w ≡ any_broken_to (max_depth - 1) [] (listed k cs rs)) where
-      pub context_broken : w ≡ true → refused broken_scope ≡ on_scope (lent s ss ns) (set_context_list x cs rs)
+    module _ (v : is_broken_name x ≡ false) where
+      pub context_broken : any_broken_to (max_depth - 1) [] (listed s.contexts cs rs) ≡ true → refused broken_scope ≡ on_scope (lent s ss ns) (set_context_list x cs rs)
       unfolding set_context
-      context_broken y = rw (sym p ∙ t, sym q ∙ u, list_below s.contexts x (listed s.contexts cs rs) (listed_in s.contexts cs rs), sym r ∙ v, sym (m s.contexts) ∙ y)
+      context_broken y = rw (ok, u, list_below s.contexts x (listed s.contexts cs rs) (listed_in s.contexts cs rs), v, y)
 
-      pub context_added : w ≡ false → {a : Changed} → a ≡ added (record { context = s.contexts; depth = 0; kind = context_kind; name = x } ∷ map deeper (listed s.contexts cs rs)) (scope_of (lent s ss ns))
+      pub context_added : any_broken_to (max_depth - 1) [] (listed s.contexts cs rs) ≡ false → {a : Changed} → a ≡ added (record { context = s.contexts; depth = 0; kind = context_kind; name = x } ∷ map deeper (listed s.contexts cs rs)) (scope_of (lent s ss ns))
           → a ≡ on_scope (lent s ss ns) (set_context_list x cs rs)
       unfolding set_context
-      context_added y e = e ∙ rw (sym p ∙ t, sym q ∙ u, list_below s.contexts x (listed s.contexts cs rs) (listed_in s.contexts cs rs), sym r ∙ v, sym (m s.contexts) ∙ y)
+      context_added y e = e ∙ rw (ok, u, list_below s.contexts x (listed s.contexts cs rs) (listed_in s.contexts cs rs), v, y)
 
 -- The new entry and the list behind it.
+pub new_place : {ss ns ss' ns' : List (List ℕ)} {from to left back : ℕ} (w : List Entry) (e : Entry) → left ≡ length w → Moved ss ns ss' ns' from to back (w ++ (e ∷ [])) → to ≡ from + left + 1
+new_place w e l a = omega (arith, l, a.place, length-append w (e ∷ []))
+
 module _ (es : List Entry) (h : any_broken_to (max_depth - 1) [] es ≡ false) {n : ℕ} (m : n ≡ length (settled es)) where
   pub count_below : n ≡ length (settled (map deeper es))
   count_below = m ∙ sym (ap length (settled_below es h) ∙ map-length deeper (settled es))
 
-  module _ {ss ns ss' ns' : List (List ℕ)} {from to : ℕ} (w : List Entry) (e : Entry) {left : ℕ} (l : left ≡ length w) (a : Moved ss ns ss' ns' from to max_entries (w ++ (e ∷ []))) where
-    pub new_place : to ≡ from + left + 1
-    new_place = omega (arith, a.place, length-append w (e ∷ []))
-
-    pub context_moved : {ss'' ns'' : List (List ℕ)} {end : ℕ} → Appended ss' ns' ss'' ns'' to end (map (raised 1) (settled es)) → from + left + n < max_entries
-        → Moved ss ns ss'' ns'' from end max_entries (w ++ (e ∷ settled (map deeper es)))
-    context_moved p f =
-        let z = new_place in
-        let k = map-length (raised 1) (settled es) in
-        let q = moved_appended {back' = max_entries} a p (omega arith) (omega (arith, p.place)) in
-        rw (settled_below es h, ← deeper-raised (settled es)) (rw (append_assoc w (e ∷ []) (map (raised 1) (settled es))) at q)
+  pub context_moved : {ss ns ss' ns' ss'' ns'' : List (List ℕ)} {from to left end : ℕ} (w : List Entry) (e : Entry) → left ≡ length w → Moved ss ns ss' ns' from to max_entries (w ++ (e ∷ []))
+      → Appended ss' ns' ss'' ns'' to end (map (raised 1) (settled es)) → from + left + n < max_entries → Moved ss ns ss'' ns'' from end max_entries (w ++ (e ∷ settled (map deeper es)))
+  context_moved w e l a p f =
+      let z = new_place w e l a in
+      let k = map-length (raised 1) (settled es) in
+      let q = moved_appended {back' = max_entries} a p (omega arith) (omega (arith, p.place)) in
+      rw (settled_below es h, ← deeper-raised (settled es)) (rw (append_assoc w (e ∷ []) (map (raised 1) (settled es))) at q)

@@ -7,7 +7,9 @@ use native.Mathlib.Omega.{arith}
 use native.Mathlib.Numerals.{add-one}
 use lib.ListN.{length, get_or, drop, set, length-append, length-set}
 use lib.Seq.{drop-set-lt, get_or-drop}
-use borrow.Author.Tests.{eq-eqb, ne_eqb, le-leb, lt-leb}
+use lib.Dec.{ltb, eqb}
+use mir.Val.{bool_byte}
+use borrow.Author.Tests.{eq-eqb, ne_eqb, le-leb, lt-leb, le-ltb}
 use Rattle.names.specs.Same.{same}
 use Rattle.scope.specs.Limits.{max_name, max_depth}
 use Rattle.scope.specs.Entries.{Entry}
@@ -16,22 +18,30 @@ use Rattle.scope.specs.Rows.{entry_at, name_length}
 use Rattle.scope.specs.Listing.{cut_after, keep}
 use Rattle.scope_calls.specs.Written.{Appended}
 use Rattle.scope_calls.specs.Naming.{stays_beside, without, Moved}
-use Rattle.scope.proofs.HeldLaws.{held-step, held-end, short_at}
+use Rattle.scope.specs.Viewed.{no_entry}
+use Rattle.scope.proofs.HeldLaws.{held-length, held_at, short_at}
+use Rattle.scope.proofs.BrokenLaws.{entries_end, entry_step}
 use Rattle.scope_calls.proofs.WrittenLaws.{held_snoc, set_short, behind}
 
+-- Whether an entry stays, by the code's tests.
 module _ (cut : ℕ) (e : Entry) (x : List ℕ) where
-  pub beside_cut : cut ≤ e.depth → false ≡ stays_beside cut e x
+  pub beside_cut : cut ≤ e.depth → ltb e.depth cut ≡ stays_beside cut e x
   unfolding stays_beside
-  beside_cut h = rw (le-leb _ _ h)
+  beside_cut h = rw (le-ltb e.depth cut h, le-leb cut e.depth h)
 
-  module _ (g : e.depth < cut) where
-    pub beside_deep : (e.depth ≡ 0 → ⊥) → true ≡ stays_beside cut e x
-    unfolding stays_beside
-    beside_deep h = rw (lt-leb cut e.depth g, ne_eqb _ _ h)
-
+  module _ (h : e.depth < cut) where
     pub beside_name : e.depth ≡ 0 → {b : Bool} → b ≡ same e.name x → not b ≡ stays_beside cut e x
     unfolding stays_beside
-    beside_name h q = rw (q, lt-leb cut e.depth g, eq-eqb _ _ h)
+    beside_name z q = rw (lt-leb cut e.depth h, eq-eqb e.depth 0 z, q)
+
+    pub beside_deep : (e.depth ≡ 0 → ⊥) → {b : Bool} → b ≡ eqb e.depth 0 → not b ≡ stays_beside cut e x
+    unfolding stays_beside
+    beside_deep z q = rw (q, lt-leb cut e.depth h, ne_eqb e.depth 0 z)
+
+-- A bool as a number.
+pub as_one : (b : Bool) → (bool_byte b ≡ cond b 1 0) × (bool_byte b ≤ 1)
+as_one true = (refl, omega arith)
+as_one false = (refl, omega arith)
 
 -- One row moved, or not.
 module _ (ss ns : List (List ℕ)) (i to : ℕ) (g : to ≤ i) (h : i < length ss) (j : i < length ns) {b : Bool} where
@@ -52,21 +62,21 @@ module _ (ss ns : List (List ℕ)) (i to : ℕ) (g : to ≤ i) (h : i < length s
   })
 
 -- One step of the loops.
-module _ (ss ns : List (List ℕ)) (count i : ℕ) (x : List ℕ) (cut : ℕ) (h : count ≤ length ss) (j : count ≤ length ns) where
-  pub without_end : count ≤ i → without cut x (drop i (held count ss ns)) ≡ []
+module _ (es : List Entry) (i : ℕ) (x : List ℕ) (cut : ℕ) where
+  pub without_end : length es ≤ i → without cut x (drop i es) ≡ []
   unfolding without
-  without_end l = rw (held-end i count ss ns l h j)
+  without_end h = rw (entries_end es i h)
 
-  module _ (l : i < count) {b : Bool} (q : b ≡ stays_beside cut (entry_at ss ns i) x) {c : ℕ} (r : c ≡ cut_after cut (get_or (get_or ss i []) 1 0) b) where
-    pub without-step : without cut x (drop i (held count ss ns)) ≡ keep b (entry_at ss ns i) ++ without c x (drop (i + 1) (held count ss ns))
+  module _ {e : Entry} (at : e ≡ get_or es i no_entry) (h : i < length es) {b : Bool} (q : b ≡ stays_beside cut e x) {c : ℕ} (r : c ≡ cut_after cut e.depth b) where
+    pub without_step : without cut x (drop i es) ≡ keep b e ++ without c x (drop (i + 1) es)
     unfolding without
-    without-step = rw (r, q, add-one, held-step i count ss ns l h j)
+    without_step = rw (r, q, entry_step es i at h)
 
-    pub left_step : {m : ℕ} → m ≡ cond b 1 0 → length (without cut x (drop i (held count ss ns))) ≡ m + length (without c x (drop (i + 1) (held count ss ns)))
+    pub left_step : length (without cut x (drop i es)) ≡ cond b 1 0 + length (without c x (drop (i + 1) es))
     unfolding keep
-    left_step e = rw (without-step, length-append, e) (ap (λ z. z + length (without c x (drop (i + 1) (held count ss ns)))) (one b))
+    left_step = rw (without_step, length-append) (ap (λ z. z + length (without c x (drop (i + 1) es))) (one b))
       where
-        one : (a : Bool) → length (cond a (entry_at ss ns i ∷ []) []) ≡ cond a 1 0
+        one : (a : Bool) → length (cond a (e ∷ []) []) ≡ cond a 1 0
         one true = refl
         one false = refl
 
@@ -86,25 +96,24 @@ going_none ss ns from count x h = record { inside = h; low = omega arith; done =
 
 module _ {ss₀ ns₀ ss ns : List (List ℕ)} {from to count cut i : ℕ} {x : List ℕ} (g : Going ss₀ ns₀ ss ns from to count cut i x) (h : count ≤ length ss₀) (j : count ≤ length ns₀) where
   pub going_all : count ≤ i → Moved ss₀ ns₀ ss ns from to count (without (suc max_depth) x (drop from (held count ss₀ ns₀)))
-  going_all l = let z : i ≡ count = omega arith in rw (← g.rest, without_end ss₀ ns₀ count i x cut h j l, append-nil) (rw z at g.moved)
+  going_all l = let z : i ≡ count = omega arith in rw (← g.rest, without_end (held count ss₀ ns₀) i x cut (rw (held-length count ss₀ ns₀ h j) l), append-nil) (rw z at g.moved)
 
   pub going_short : any_too_long count ss₀ ≡ false → i < count → get_or (get_or ss i []) 3 0 ≤ max_name
   going_short f l = rw (row i ss ss₀ g.moved.slots_behind) (short_at count ss₀ i f h l)
 
-  pub going_more : {b : Bool} {c to' : ℕ} {ss' ns' : List (List ℕ)} → i < count → b ≡ stays_beside cut (entry_at ss ns i) x → c ≡ cut_after cut (get_or (get_or ss i []) 1 0) b
-      → (Moved ss ns ss' ns' to to' (i + 1) (keep b (entry_at ss ns i))) × (to' ≤ i + 1) → Going ss₀ ns₀ ss' ns' from to' count c (i + 1) x
-  going_more {b} {c} {to'} {ss'} {ns'} l q r p =
-      let m = p.0 in
+  going_more : {b : Bool} {c to' : ℕ} {ss' ns' : List (List ℕ)} → i < count → b ≡ stays_beside cut (entry_at ss ns i) x → c ≡ cut_after cut (entry_at ss ns i).depth b
+      → Moved ss ns ss' ns' to to' (i + 1) (keep b (entry_at ss ns i)) → to' ≤ i + 1 → Going ss₀ ns₀ ss' ns' from to' count c (i + 1) x
+  going_more {b} {c} {to'} {ss'} {ns'} l q r m up' =
       let up : i ≤ i + 1 = omega arith in
       let a = row i ss ss₀ g.moved.slots_behind in
       let d = row i ns ns₀ g.moved.names_behind in
       let q₁ : b ≡ stays_beside cut (entry_at ss₀ ns₀ i) x = rw (a, d) at q in
-      let r₁ : c ≡ cut_after cut (get_or (get_or ss₀ i []) 1 0) b = rw a at r in
+      let r₁ : c ≡ cut_after cut (entry_at ss₀ ns₀ i).depth b = rw a at r in
       let m₁ : held to' ss' ns' ≡ held to ss ns ++ keep b (entry_at ss₀ ns₀ i) = rw (a, d) at m.reads in
       let n₁ : to' ≡ to + length (keep b (entry_at ss₀ ns₀ i)) = rw (a, d) at m.place in
       record {
         inside = omega arith;
-        low = p.1;
+        low = up';
         done = g.done ++ keep b (entry_at ss₀ ns₀ i);
         moved = record {
           as_many_slots = m.as_many_slots ∙ g.moved.as_many_slots;
@@ -115,8 +124,20 @@ module _ {ss₀ ns₀ ss ns : List (List ℕ)} {from to count cut i : ℕ} {x : 
           slots_behind = m.slots_behind ∙ behind ss ss₀ up g.moved.slots_behind;
           names_behind = m.names_behind ∙ behind ns ns₀ up g.moved.names_behind;
         };
-        rest = append_assoc g.done _ _ ∙ sym (ap (λ z. g.done ++ z) (without-step ss₀ ns₀ count i x cut h j l q₁ r₁)) ∙ g.rest;
+        rest = append_assoc g.done _ _ ∙ sym (ap (λ z. g.done ++ z) (without_step (held count ss₀ ns₀) i x cut (sym (held_at i count ss₀ ns₀ l h j)) (rw (held-length count ss₀ ns₀ h j) l) q₁ r₁)) ∙ g.rest;
       }
+
+  -- The entry at i, as it is read.
+  module _ (l : i < count) {e : Entry} (is : e ≡ entry_at ss ns i) {b : Bool} (q : b ≡ stays_beside cut e x) {c : ℕ} (r : c ≡ cut_after cut e.depth b) where
+    pub going_not : b ≡ false → Going ss₀ ns₀ ss ns from to count c (i + 1) x
+    going_not t =
+        let m = g.moved in
+        going_more l (rw is at q) (rw is at r) (moved_not ss ns i to g.low (omega (arith, m.as_many_slots)) (omega (arith, m.as_many_names)) t) (omega (arith, g.low))
+
+    pub going_moved : any_too_long count ss₀ ≡ false → b ≡ true → Going ss₀ ns₀ (set ss to (get_or ss i [])) (set ns to (get_or ns i [])) from (to + 1) count c (i + 1) x
+    going_moved f t =
+        let m = g.moved in
+        going_more l (rw is at q) (rw is at r) (moved-one ss ns i to g.low (omega (arith, m.as_many_slots)) (omega (arith, m.as_many_names)) (going_short f l) t) (omega (arith, g.low))
 
 -- More written behind what was moved.
 pub moved_appended : {ss ns ss' ns' ss'' ns'' : List (List ℕ)} {a b c back back' : ℕ} {es fs : List Entry} → Moved ss ns ss' ns' a b back es → Appended ss' ns' ss'' ns'' b c fs → back ≤ back' → c ≤ back' → Moved ss ns ss'' ns'' a c back' (es ++ fs)

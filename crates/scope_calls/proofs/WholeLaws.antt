@@ -108,3 +108,8 @@ module _ {s : Scope} {ss ns : List (List ℕ)} (h : Sound (lent s ss ns)) where
           let w = h.limits in
           let n : s.parsed ≤ length (drop max_entries ss) = rw length-drop (omega arith) in
           rw (← get_or-drop max_entries ss i []) (short_at s.parsed (drop max_entries ss) i h.short_parsed n l)
+
+-- An accepted call that wrote: what holds of the rows as it left them holds of those that were lent to it.
+pub done_as : (t : Scope) {ss ns ss' ns' : List (List ℕ)} {d : Changed} → changed (scope_of (lent t ss ns)) ≡ d → is_broken (lent t ss ns) ≡ false → ss' ≡ ss → ns' ≡ ns
+    → (changed (scope_of (lent t ss' ns')) ≡ d) × Unit {0} × Unit {0} × (is_broken (lent t ss' ns') ≡ false)
+done_as t a b p q = rw (p, q) (a, tt, tt, b)

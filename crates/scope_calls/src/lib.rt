@@ -2,7 +2,7 @@
 
 #![tactic(auto)]
 
-pub mod write; // write.rt: one entry written to a row
+pub mod write; // write.rt: rows that are lent to be written
 pub mod stack; // stack.rt: contexts pushed and popped
 pub mod parsed; // parsed.rt: the set of parsed names
 pub mod push; // push.rt: an entry list pushed

@@ -1,127 +1,83 @@
 // An entry named in the last context: one of its name there goes with all below it.
-ghost use Rattle.std.specs.Prelude.{◌≡◌, false, [], ◌∷◌, ◌++◌, suc, ◌+◌, ◌≤◌, ◌<◌, length, drop, get_or};
+ghost use Rattle.std.specs.Prelude.{◌≡◌, false, [], ◌∷◌, ◌++◌, suc, ◌+◌, ◌≤◌, ◌<◌, length, drop};
 ghost use Rattle.scope.specs.Limits.{max_name, max_entries, max_depth};
 ghost use Rattle.scope.specs.Calls as spec;
 ghost use Rattle.scope.specs.Lent.{held, any_too_long, on_scope, set_context_list};
-ghost use Rattle.scope.specs.Rows.{entry_at, name_length};
-ghost use Rattle.scope.specs.Listing.{keep};
+ghost use Rattle.scope.specs.Sound.{rows_entries};
+ghost use Rattle.scope.specs.Viewed.{viewed};
 ghost use Rattle.scope_calls.specs.Naming.{stays_beside, without, Moved};
+ghost use Rattle.scope_calls.specs.Lending.{SameRows};
 ghost use Rattle.scope.specs.Answers.{lent, answer_of, Kept, Whole};
 
-use crate::{push, stack, write};
-use lists::list;
+use crate::write::RowsMut;
+use crate::{push, stack};
+use lists::list::List;
+use lists::settling;
+use scope::entries::{Entries, Entry};
+use scope::lent::Lent;
+use scope::rows::Rows;
 use scope::scope::{Kind, Listed, Scope, Slot};
-use scope::{broken, compare};
+use scope::{broken, entries};
 use text::refusal::Refusal;
 
-// Whether the entry at i stays beside a new one of this name at depth 0, where all of depth cut or deeper goes.
-fn stays_beside(
-    slots: &[[u32; Slot::NUMBERS]],
-    names: &[[u32; Scope::MAX_NAME]],
-    i: usize,
-    cut: u32,
-    name: &[u32],
-) -> bool
-    requires { (i < length slots.now) × (i < length names.now) × (get_or (get_or slots.now i []) 3 0 ≤ max_name) }
-    ensures { result ≡ stays_beside cut (entry_at slots.now names.now i) name.now }
+// Whether the entry stays beside a new one of this name at depth 0, where all of depth cut or deeper goes.
+fn stays_beside(e: Entry, cut: u32, name: &[u32]) -> bool
+    ensures { result ≡ stays_beside cut (viewed e.entry) name.now }
 {
-    if cut <= slots[i][Slot::DEPTH] {
-        return false;
-    }
-    if slots[i][Slot::DEPTH] != 0 {
-        return true;
-    }
-    !compare::same_cells(
-        &names[i],
-        compare::wide(slots[i][Slot::LENGTH]),
-        name,
-        name.len(),
-    )
+    e.depth < cut && !(e.depth == 0 && e.name == name)
 }
 
 // How many entries from `from` on stay.
-fn left_beside(
-    slots: &[[u32; Slot::NUMBERS]],
-    names: &[[u32; Scope::MAX_NAME]],
-    from: usize,
-    count: usize,
-    name: &[u32],
-) -> usize
-    requires { (from ≤ count) × (count ≤ length slots.now) × (count ≤ length names.now) × (any_too_long count slots.now ≡ false) }
-    ensures { (from + result ≤ count) × (result ≡ length (without (suc max_depth) name.now (drop from (held count slots.now names.now)))) }
+fn left_beside(entries: Rows, from: usize, name: &[u32]) -> usize
+    requires { from ≤ length (rows_entries entries) }
+    ensures { (from + result ≤ length (rows_entries entries.entry)) × (result ≡ length (without (suc max_depth) name.now (drop from (rows_entries entries.entry)))) }
 {
     let mut n: usize = 0;
-    let mut cut = list::NO_CUT;
-    let mut i = from;
-    while i < count {
-        let kept = stays_beside(slots, names, i, cut, name);
-        n += list::counted(kept);
-        cut = list::cut_after(cut, slots[i][Slot::DEPTH], kept);
-        i += 1;
+    let mut cut = settling::NO_CUT;
+    for i in from..entries.count() {
+        let e = entries.at(i);
+        let kept = stays_beside(e, cut, name);
+        n += usize::from(kept);
+        cut = settling::cut_after(cut, e.depth, kept);
     }
     n
 }
 
-// Moves the entry at i down to the place `to`, if it stays; answers the next free place.
-fn move_kept(
-    slots: &mut [[u32; Slot::NUMBERS]],
-    names: &mut [[u32; Scope::MAX_NAME]],
-    i: usize,
-    to: usize,
-    kept: bool,
-) -> usize
-    requires { (to ≤ i) × (i < length slots.old) × (i < length names.old) × (name_length slots.old i ≤ max_name) }
-    ensures { Moved slots.old names.old slots.new names.new to result (i + 1) (keep kept (entry_at slots.old names.old i)) × (result ≤ i + 1) }
-{
-    if !kept {
-        return to;
-    }
-    slots[to] = slots[i];
-    names[to] = names[i];
-    to + 1
-}
-
 // Moves the entries from `from` on that stay together; answers the next free place.
-fn take_out(
-    slots: &mut [[u32; Slot::NUMBERS]],
-    names: &mut [[u32; Scope::MAX_NAME]],
-    from: usize,
-    count: usize,
-    name: &[u32],
-) -> usize
-    requires { (from ≤ count) × (count ≤ length slots.old) × (count ≤ length names.old) × (any_too_long count slots.old ≡ false) }
-    ensures { Moved slots.old names.old slots.new names.new from result count (without (suc max_depth) name.now (drop from (held count slots.old names.old))) }
+fn take_out(rows: &mut RowsMut, from: usize, count: usize, name: &[u32]) -> usize
+    requires { (from ≤ count) × (count ≤ length rows.old.slots.now) × (count ≤ length rows.old.names.now) × (any_too_long count rows.old.slots.now ≡ false) }
+    ensures moved { Moved rows.old.slots.now rows.old.names.now rows.new.slots.now rows.new.names.now from result count
+        (without (suc max_depth) name.now (drop from (held count rows.old.slots.now rows.old.names.now))) }
+    ensures same { SameRows rows.old rows.new }
 {
+    let slots = &mut *rows.slots;
+    let names = &mut *rows.names;
     let mut to = from;
-    let mut cut = list::NO_CUT;
-    let mut i = from;
-    while i < count {
-        let kept = stays_beside(slots, names, i, cut, name);
-        let depth = slots[i][Slot::DEPTH];
-        to = move_kept(slots, names, i, to, kept);
-        cut = list::cut_after(cut, depth, kept);
-        i += 1;
+    let mut cut = settling::NO_CUT;
+    for i in from..count {
+        let e = Entry::of(&slots[i], &names[i]);
+        let depth = e.depth;
+        let kept = stays_beside(e, cut, name);
+        if kept {
+            slots[to] = slots[i];
+            names[to] = names[i];
+            to += 1;
+        }
+        cut = settling::cut_after(cut, depth, kept);
     }
     to
 }
 
-// Takes the entry of this name out of those from `from` on, and puts a new one behind the rest; answers the next free place.
-fn replace(
-    slots: &mut [[u32; Slot::NUMBERS]],
-    names: &mut [[u32; Scope::MAX_NAME]],
-    from: usize,
-    count: usize,
-    context: u32,
-    kind: u32,
-    name: &[u32],
-) -> usize
-    requires { (from ≤ count) × (count ≤ max_entries) × (max_entries < length slots.old) × (max_entries < length names.old) × (any_too_long count slots.old ≡ false) × (length name.now ≤ max_name)
-        × (from + length (without (suc max_depth) name.now (drop from (held count slots.old names.old))) < max_entries) }
-    ensures { Moved slots.old names.old slots.new names.new from result max_entries
-        (without (suc max_depth) name.now (drop from (held count slots.old names.old)) ++ (record { context = context; depth = 0; kind = kind; name = name.now } ∷ [])) }
+// Takes the entry of e's name out of those from `from` on, and puts e behind the rest; answers the next free place.
+fn replace(rows: &mut RowsMut, from: usize, count: usize, e: Entry) -> usize
+    requires { (from ≤ count) × (count ≤ max_entries) × (max_entries < length rows.old.slots.now) × (max_entries < length rows.old.names.now) × (any_too_long count rows.old.slots.now ≡ false)
+        × (length e.name.now ≤ max_name) × (from + length (without (suc max_depth) e.name.now (drop from (held count rows.old.slots.now rows.old.names.now))) < max_entries) }
+    ensures moved { Moved rows.old.slots.now rows.old.names.now rows.new.slots.now rows.new.names.now from result max_entries
+        (without (suc max_depth) e.entry.name.now (drop from (held count rows.old.slots.now rows.old.names.now)) ++ (viewed e.entry ∷ [])) }
+    ensures same { SameRows rows.old rows.new }
 {
-    let to = take_out(slots, names, from, count, name);
-    write::put(slots, names, to, context, 0, kind, name);
+    let to = take_out(rows, from, count, e.name);
+    rows.put(to, e);
     to + 1
 }
 
@@ -136,33 +92,31 @@ pub fn set_entry_name(
     ensures { (answer_of result slots.new names.new ≡ on_scope (lent s slots.old names.old) (spec.set_entry_name name.now))
         × Kept result slots.old slots.new × Kept result names.old names.new × Whole result slots.new names.new }
 {
-    if broken::is_broken(s, slots, names) {
-        return Err(Refusal::BrokenScope);
+    let scope = Lent {
+        counts: s,
+        slots,
+        names,
     }
-    if broken::is_broken_name(name, name.len()) {
+    .checked()?;
+    if broken::is_broken_name(name) {
         return Err(Refusal::BrokenScope);
     }
     if s.contexts == 0 {
         return Ok(s);
     }
-    let from = stack::before_context(slots, names, s.entries, s.contexts);
-    if Scope::MAX_ENTRIES <= from + left_beside(slots, names, from, s.entries, name) {
+    let held = scope.entries();
+    let from = stack::before_context(held, s.contexts);
+    if Scope::MAX_ENTRIES <= from + left_beside(held, from, name) {
         return Err(Refusal::OverLimit);
     }
-    let end = replace(
-        slots,
-        names,
-        from,
-        s.entries,
-        s.contexts as u32,
-        Kind::VARIABLE,
+    let e = Entry {
+        context: s.contexts as u32,
+        depth: 0,
+        kind: u32::from(Kind::Variable),
         name,
-    );
-    Ok(Scope {
-        contexts: s.contexts,
-        entries: end,
-        parsed: s.parsed,
-    })
+    };
+    let entries = replace(&mut RowsMut { slots, names }, from, s.entries, e);
+    Ok(Scope { entries, ..s })
 }
 
 // Names a context with an entry list in the last context; the list stands one level deeper.
@@ -178,42 +132,34 @@ pub fn set_context(
     ensures { (answer_of result slots.new names.new ≡ on_scope (lent s slots.old names.old) (set_context_list name.now cells.now rows.now))
         × Kept result slots.old slots.new × Kept result names.old names.new × Whole result slots.new names.new }
 {
-    if broken::is_broken(s, slots, names) {
-        return Err(Refusal::BrokenScope);
+    let scope = Lent {
+        counts: s,
+        slots,
+        names,
     }
-    if list::any_outside(rows, cells) {
-        return Err(Refusal::BrokenScope);
-    }
-    if broken::is_broken_name(name, name.len()) {
-        return Err(Refusal::BrokenScope);
-    }
-    if list::any_broken(rows, cells, Scope::MAX_DEPTH - 1) {
+    .checked()?;
+    let context = s.contexts as u32;
+    let list = List::checked(context, rows, cells)?;
+    if broken::is_broken_name(name) || entries::any_broken(&list, Scope::MAX_DEPTH - 1) {
         return Err(Refusal::BrokenScope);
     }
     if s.contexts == 0 {
         return Ok(s);
     }
-    let from = stack::before_context(slots, names, s.entries, s.contexts);
-    let kept = from + left_beside(slots, names, from, s.entries, name);
-    if Scope::MAX_ENTRIES <= kept {
+    let held = scope.entries();
+    let from = stack::before_context(held, s.contexts);
+    let kept = from + left_beside(held, from, name);
+    if Scope::MAX_ENTRIES <= kept || Scope::MAX_ENTRIES - kept <= settling::remaining(list) {
         return Err(Refusal::OverLimit);
     }
-    if Scope::MAX_ENTRIES - kept <= list::remaining(rows, cells) {
-        return Err(Refusal::OverLimit);
-    }
-    let at = replace(
-        slots,
-        names,
-        from,
-        s.entries,
-        s.contexts as u32,
-        Kind::CONTEXT,
+    let e = Entry {
+        context,
+        depth: 0,
+        kind: u32::from(Kind::Context),
         name,
-    );
-    let end = push::append(slots, names, at, s.contexts as u32, 1, rows, cells);
-    Ok(Scope {
-        contexts: s.contexts,
-        entries: end,
-        parsed: s.parsed,
-    })
+    };
+    let mut lent = RowsMut { slots, names };
+    let at = replace(&mut lent, from, s.entries, e);
+    let entries = push::append(&mut lent, at, 1, list);
+    Ok(Scope { entries, ..s })
 }

@@ -4,8 +4,10 @@ ghost use Rattle.scope.specs.Calls as spec;
 ghost use Rattle.scope.specs.Lent.{on_scope};
 ghost use Rattle.scope.specs.Answers.{lent, answer_of, Kept, Whole};
 
-use crate::write;
+use crate::write::RowsMut;
 use scope::broken;
+use scope::entries::Entry;
+use scope::lent::Lent;
 use scope::scope::{Scope, Slot};
 use text::refusal::Refusal;
 
@@ -20,22 +22,31 @@ pub fn add_parsed_name(
     ensures { (answer_of result slots.new names.new ≡ on_scope (lent s slots.old names.old) (spec.add_parsed_name name.now))
         × Kept result slots.old slots.new × Kept result names.old names.new × Whole result slots.new names.new }
 {
-    if broken::is_broken(s, slots, names) {
+    let scope = Lent {
+        counts: s,
+        slots,
+        names,
+    }
+    .checked()?;
+    if broken::is_broken_name(name) {
         return Err(Refusal::BrokenScope);
     }
-    if broken::is_broken_name(name, name.len()) {
-        return Err(Refusal::BrokenScope);
-    }
-    if broken::is_parsed(slots, names, s.parsed, 0, name, name.len()) {
+    if scope.parsed().has_name(name, 0) {
         return Ok(s);
     }
     if Scope::MAX_PARSED <= s.parsed {
         return Err(Refusal::OverLimit);
     }
-    write::put(slots, names, Scope::MAX_ENTRIES + s.parsed, 0, 0, 0, name);
+    // Of a parsed name's slot the length alone is read.
+    let e = Entry {
+        context: 0,
+        depth: 0,
+        kind: 0,
+        name,
+    };
+    RowsMut { slots, names }.put(Scope::MAX_ENTRIES + s.parsed, e);
     Ok(Scope {
-        contexts: s.contexts,
-        entries: s.entries,
         parsed: s.parsed + 1,
+        ..s
     })
 }

@@ -1,73 +1,45 @@
 // An entry list pushed as one context.
-ghost use Rattle.std.specs.Prelude.{◌≡◌, true, false, [], map, ℕ, ◌+◌, ◌≤◌, ◌<◌, length, get_or};
+ghost use Rattle.std.specs.Prelude.{◌≡◌, false, [], map, ◌+◌, ◌≤◌, length};
 ghost use Rattle.scope.specs.Limits.{max_depth};
 ghost use Rattle.scope.specs.Settled.{settled};
-ghost use Rattle.scope.specs.Lent.{spanned, listed, any_outside, on_scope, push_list};
-ghost use Rattle.scope.specs.Listing.{any_broken_to, keep, raised};
+ghost use Rattle.scope.specs.Lent.{on_scope, push_list};
+ghost use Rattle.scope.specs.Listing.{any_broken_to, raised};
+ghost use Rattle.lists.specs.List.{entries_of};
 ghost use Rattle.scope_calls.specs.Written.{Appended};
+ghost use Rattle.scope_calls.specs.Lending.{SameRows};
 ghost use Rattle.scope.specs.Answers.{lent, answer_of, Kept, Whole};
 
-use crate::write;
-use lists::list;
+use crate::write::RowsMut;
+use lists::list::List;
+use lists::settling;
+use scope::entries;
+use scope::entries::{Entries, Entry};
+use scope::lent::Lent;
 use scope::scope::{Listed, Scope, Slot};
-use scope::{broken, compare};
 use text::refusal::Refusal;
 
-// Writes the entry at i, if it stays, with `up` added to its depth; answers the next free place.
-fn put_kept(
-    slots: &mut [[u32; Slot::NUMBERS]],
-    names: &mut [[u32; Scope::MAX_NAME]],
-    at: usize,
-    context: u32,
-    up: u32,
-    rows: &[[u32; Listed::NUMBERS]],
-    cells: &[u32],
-    i: usize,
-    kept: bool,
-) -> usize
-    requires { (i < length rows.now) × (any_outside cells.now rows.now ≡ false) × ((k : ℕ) → any_broken_to max_depth [] (listed k cells.now rows.now) ≡ false) × (up ≤ 1)
-        × (kept ≡ true → at < length slots.old) × (kept ≡ true → at < length names.old) }
-    ensures { Appended slots.old names.old slots.new names.new at result (map (raised up) (keep kept (spanned context cells.now (get_or rows.now i [])))) }
-{
-    if !kept {
-        return at;
-    }
-    let start = compare::wide(rows[i][Listed::START]);
-    let end = start + compare::wide(rows[i][Listed::LENGTH]);
-    write::put(
-        slots,
-        names,
-        at,
-        context,
-        rows[i][Listed::DEPTH] + up,
-        rows[i][Listed::KIND],
-        &cells[start..end],
-    );
-    at + 1
-}
-
-// Writes the entries that are left after replacing, from the place `from` on; answers the next free place.
-pub fn append(
-    slots: &mut [[u32; Slot::NUMBERS]],
-    names: &mut [[u32; Scope::MAX_NAME]],
-    from: usize,
-    context: u32,
-    up: u32,
-    rows: &[[u32; Listed::NUMBERS]],
-    cells: &[u32],
-) -> usize
-    requires { (any_outside cells.now rows.now ≡ false) × ((k : ℕ) → any_broken_to max_depth [] (listed k cells.now rows.now) ≡ false) × (up ≤ 1)
-        × (from + length (settled (listed context cells.now rows.now)) ≤ length slots.old) × (from + length (settled (listed context cells.now rows.now)) ≤ length names.old) }
-    ensures { Appended slots.old names.old slots.new names.new from result (map (raised up) (settled (listed context cells.now rows.now))) }
+// Writes the entries that are left after replacing, from the place `from` on, with `up` added to their depths; answers the next free place.
+// Ruled out, among others: a replaced entry written; an entry written over the one before it.
+pub fn append(rows: &mut RowsMut, from: usize, up: u32, list: List) -> usize
+    requires { (any_broken_to max_depth [] (entries_of list) ≡ false) × (up ≤ 1)
+        × (from + length (settled (entries_of list)) ≤ length rows.old.slots.now) × (from + length (settled (entries_of list)) ≤ length rows.old.names.now) }
+    ensures written { Appended rows.old.slots.now rows.old.names.now rows.new.slots.now rows.new.names.now from result (map (raised up) (settled (entries_of list.entry))) }
+    ensures same { SameRows rows.old rows.new }
 {
     let mut at = from;
-    let mut cut = list::NO_CUT;
-    let mut i: usize = 0;
-    while i < rows.len() {
-        let kept = list::stays(rows, cells, i, cut);
-        at = put_kept(slots, names, at, context, up, rows, cells, i, kept);
-        cut = list::cut_after(cut, rows[i][Listed::DEPTH], kept);
-        i += 1;
+    let mut cut = settling::NO_CUT;
+    for i in 0..list.count() {
+        let e = list.at(i);
+        let kept = settling::stays(&list, i, cut);
+        if kept {
+            let raised = Entry {
+                depth: e.depth + up,
+                ..e
+            };
+            rows.put(at, raised);
+            at += 1;
+        }
+        cut = settling::cut_after(cut, e.depth, kept);
     }
     at
 }
@@ -84,33 +56,27 @@ pub fn push(
     ensures { (answer_of result slots.new names.new ≡ on_scope (lent s slots.old names.old) (push_list cells.now rows.now))
         × Kept result slots.old slots.new × Kept result names.old names.new × Whole result slots.new names.new }
 {
-    if broken::is_broken(s, slots, names) {
-        return Err(Refusal::BrokenScope);
-    }
-    if list::any_outside(rows, cells) {
-        return Err(Refusal::BrokenScope);
-    }
-    if list::any_broken(rows, cells, Scope::MAX_DEPTH) {
-        return Err(Refusal::BrokenScope);
-    }
-    if Scope::MAX_CONTEXTS <= s.contexts {
-        return Err(Refusal::OverLimit);
-    }
-    if Scope::MAX_ENTRIES - s.entries < list::remaining(rows, cells) {
-        return Err(Refusal::OverLimit);
-    }
-    let end = append(
+    Lent {
+        counts: s,
         slots,
         names,
-        s.entries,
-        (s.contexts + 1) as u32,
-        0,
-        rows,
-        cells,
-    );
+    }
+    .checked()?;
+    let contexts = s.contexts + 1;
+    let list = List::checked(contexts as u32, rows, cells)?;
+    if entries::any_broken(&list, Scope::MAX_DEPTH) {
+        return Err(Refusal::BrokenScope);
+    }
+    if Scope::MAX_CONTEXTS < contexts {
+        return Err(Refusal::OverLimit);
+    }
+    if Scope::MAX_ENTRIES - s.entries < settling::remaining(list) {
+        return Err(Refusal::OverLimit);
+    }
+    let entries = append(&mut RowsMut { slots, names }, s.entries, 0, list);
     Ok(Scope {
-        contexts: s.contexts + 1,
-        entries: end,
-        parsed: s.parsed,
+        contexts,
+        entries,
+        ..s
     })
 }

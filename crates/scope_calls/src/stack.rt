@@ -1,75 +1,62 @@
 // Contexts pushed and popped.
-ghost use Rattle.std.specs.Prelude.{◌≡◌, ◌≤◌, length, drop};
+ghost use Rattle.std.specs.Prelude.{◌≡◌, ◌≤◌, length, take, drop};
 ghost use Rattle.scope.specs.Calls as spec;
-ghost use Rattle.scope.specs.Lent.{held, on_scope};
+ghost use Rattle.scope.specs.Lent.{on_scope};
+ghost use Rattle.scope.specs.Sound.{rows_entries};
 ghost use Rattle.scope.specs.Answers.{lent, answer_of, Whole};
 
-use scope::scope::{Scope, Slot};
-use scope::{broken, compare};
+use scope::entries::Entries;
+use scope::lent::Lent;
+use scope::rows::Rows;
+use scope::scope::Scope;
 use text::refusal::Refusal;
 
 // The number of entries before the first of context k.
-pub fn before_context(
-    slots: &[[u32; Slot::NUMBERS]],
-    names: &[[u32; Scope::MAX_NAME]],
-    count: usize,
-    k: usize,
-) -> usize
-    requires { (count ≤ length slots.now) × (count ≤ length names.now) }
-    ensures { (result ≤ count) × (held result slots.now names.now ≡ spec.under k (held count slots.now names.now))
-        × (drop result (held count slots.now names.now) ≡ spec.top k (held count slots.now names.now)) }
+// Ruled out, among others: the entries of context k counted.
+pub fn before_context(entries: Rows, k: usize) -> usize
+    ensures { (result ≤ length (rows_entries entries.entry)) × (take result (rows_entries entries.entry) ≡ spec.under k (rows_entries entries.entry))
+        × (drop result (rows_entries entries.entry) ≡ spec.top k (rows_entries entries.entry)) }
 {
-    let mut i: usize = 0;
-    while i < count {
-        if k <= compare::wide(slots[i][Slot::CONTEXT]) {
+    let count = entries.count();
+    for i in 0..count {
+        if k <= entries.at(i).context as usize {
             return i;
         }
-        i += 1;
     }
-    i
+    count
 }
 
 // Pops the last context; the parsed names stay. Nothing is written.
 // Ruled out, among others: an empty stack refused; parsed names popped with their context.
-pub fn pop(
-    s: Scope,
-    slots: &[[u32; Slot::NUMBERS]],
-    names: &[[u32; Scope::MAX_NAME]],
-) -> Result<Scope, Refusal>
-    ensures { (answer_of result slots.now names.now ≡ on_scope (lent s slots.now names.now) spec.pop) × Whole result slots.now names.now }
+pub fn pop(scope: Lent) -> Result<Scope, Refusal>
+    ensures { (answer_of result scope.entry.slots.now scope.entry.names.now ≡ on_scope (lent scope.entry.counts scope.entry.slots.now scope.entry.names.now) spec.pop)
+        × Whole result scope.entry.slots.now scope.entry.names.now }
 {
-    if broken::is_broken(s, slots, names) {
-        return Err(Refusal::BrokenScope);
+    let counts = scope.counts;
+    let sound = scope.checked()?;
+    if counts.contexts == 0 {
+        return Ok(counts);
     }
-    if s.contexts == 0 {
-        return Ok(s);
-    }
-    let entries = before_context(slots, names, s.entries, s.contexts);
-    let parsed = s.parsed;
     Ok(Scope {
-        contexts: s.contexts - 1,
-        entries: entries,
-        parsed: parsed,
+        contexts: counts.contexts - 1,
+        entries: before_context(sound.entries(), counts.contexts),
+        ..counts
     })
 }
 
 // Pushes an empty context. Nothing is written.
-pub fn push_default(
-    s: Scope,
-    slots: &[[u32; Slot::NUMBERS]],
-    names: &[[u32; Scope::MAX_NAME]],
-) -> Result<Scope, Refusal>
-    ensures { (answer_of result slots.now names.now ≡ on_scope (lent s slots.now names.now) spec.push_default) × Whole result slots.now names.now }
+// Ruled out, among others: the 33rd context pushed.
+pub fn push_default(scope: Lent) -> Result<Scope, Refusal>
+    ensures { (answer_of result scope.entry.slots.now scope.entry.names.now ≡ on_scope (lent scope.entry.counts scope.entry.slots.now scope.entry.names.now) spec.push_default)
+        × Whole result scope.entry.slots.now scope.entry.names.now }
 {
-    if broken::is_broken(s, slots, names) {
-        return Err(Refusal::BrokenScope);
-    }
-    if Scope::MAX_CONTEXTS <= s.contexts {
+    let counts = scope.counts;
+    scope.checked()?;
+    if Scope::MAX_CONTEXTS <= counts.contexts {
         return Err(Refusal::OverLimit);
     }
     Ok(Scope {
-        contexts: s.contexts + 1,
-        entries: s.entries,
-        parsed: s.parsed,
+        contexts: counts.contexts + 1,
+        ..counts
     })
 }

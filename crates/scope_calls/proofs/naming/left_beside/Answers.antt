@@ -1,19 +1,22 @@
 -- So many stay among those passed.
 use mathlib.Core.Path.{ap}
-use lib.ListN.{length}
-use Rattle.scope.proofs.HeldLaws.{short_at}
-use Rattle.scope_calls.proofs.NamingLaws.{without_end, left_step}
+use Prim.Native.Nat.{◌<◌, ◌≤◌}
 use native.Mathlib.Omega.{arith}
+use lib.ListN.{length}
+use Rattle.scope.specs.Sound.{rows_entries}
+use Rattle.scope_calls.proofs.NamingLaws.{as_one, without_end, left_step}
 use Rattle.scope_calls.proofs.naming.left_beside.Goals as goal
 
-pub loop-i-init : goal.loop-i-init
-loop-i-init c = (omega arith, omega arith, omega arith)
-
-pub stays_beside-kept-requires : goal.stays_beside-kept-requires
-stays_beside-kept-requires c = let a = c.args in (omega arith, omega arith, short_at a.count a.slots.now c.loop-i.i c.requires.3 (omega arith) (omega arith))
-
 pub loop-i-preserved : goal.loop-i-preserved
-loop-i-preserved c = let a = c.args in (omega arith, omega arith, omega (arith, c.loop-i.invariant.2, left_step a.slots.now a.names.now a.count c.loop-i.i a.name.now c.loop-i.cut (omega arith) (omega arith) (omega arith) c.stays_beside-kept.ensures c.cut_after-cut.ensures c.counted-n.ensures.0))
+loop-i-preserved c =
+    let es = rows_entries c.args.entries in
+    let i = c.loop-i.i in
+    let h : i < length es = omega arith in
+    let b = as_one c.stays_beside-kept.result in
+    (omega (arith, c.from-n.ensures, b.1), omega (arith, c.from-n.ensures, b.0, c.loop-i.invariant.1, left_step es i c.args.name.now c.loop-i.cut c.at-e.ensures h c.stays_beside-kept.ensures c.cut_after-cut.ensures))
 
 pub returns : goal.returns
-returns c = let a = c.args in (omega arith, omega (arith, c.loop-i.invariant.2, ap length (without_end a.slots.now a.names.now a.count c.loop-i.i a.name.now c.loop-i.cut (omega arith) (omega arith) (omega arith))))
+returns c =
+    let es = rows_entries c.args.entries in
+    let h : length es ≤ c.loop-i.i = omega arith in
+    (omega arith, omega (arith, c.loop-i.invariant.1, ap length (without_end es c.loop-i.i c.args.name.now c.loop-i.cut h)))

@@ -1,16 +1,15 @@
--- The definition's tests in order.
-use native.Mathlib.Omega.{arith}
+-- The cut, then the depth and the name.
 use mathlib.Core.Path.{◌∙◌}
-use lib.Seq.{take-length}
-use Rattle.scope.specs.Rows.{entry_at}
-use Rattle.scope_calls.proofs.NamingLaws.{beside_cut, beside_deep, beside_name}
+use Rattle.scope.specs.Viewed.{viewed}
+use Rattle.scope.proofs.BrokenLaws.{same_pointwise}
+use Rattle.scope_calls.proofs.NamingLaws.{beside_cut, beside_name, beside_deep}
 use Rattle.scope_calls.proofs.naming.stays_beside.Goals as goal
+use Rattle.scope_calls.proofs.naming.stays_beside.Goals.{then-e-eq0, else-e-eq0}
 
-pub returns-then-cut-slots : goal.returns-then-cut-slots
-returns-then-cut-slots c = let a = c.args in beside_cut a.cut (entry_at a.slots.now a.names.now a.i) a.name.now c.if-cut-slots.true
+pub returns-else-e-cut : goal.returns-else-e-cut
+returns-else-e-cut c = beside_cut c.args.cut (viewed c.args.e) c.args.name.now c.if-e-cut.false
 
-pub returns-then-slots-i-ne0 : goal.returns-then-slots-i-ne0
-returns-then-slots-i-ne0 c = let a = c.args in beside_deep a.cut (entry_at a.slots.now a.names.now a.i) a.name.now (omega arith) c.if-slots-i-ne0.true
-
-pub returns : goal.returns
-returns c = let a = c.args in beside_name a.cut (entry_at a.slots.now a.names.now a.i) a.name.now (omega arith) c.if-slots-i-ne0.false (c.same_cells.ensures ∙ rw (c.wide.ensures, take-length a.name.now))
+pub returns-after-e-eq0 : goal.returns-after-e-eq0
+returns-after-e-eq0 c =
+    let x = c.args.name.now in
+    elim c.if-e-eq0.branch [ then-e-eq0 w ↦ beside_name c.args.cut (viewed c.args.e) x c.if-e-cut.true w.if-e-eq0.true (w.result-is ∙ w.eq.ensures ∙ same_pointwise c.args.e.name.now x) | else-e-eq0 w ↦ beside_deep c.args.cut (viewed c.args.e) x c.if-e-cut.true w.if-e-eq0.false w.result-is ]

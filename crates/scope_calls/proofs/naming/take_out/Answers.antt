@@ -1,31 +1,17 @@
 -- The entries passed that stay stand together; those to come are as they were.
-use Rattle.scope_calls.proofs.NamingLaws.{going_none, going_all, going_short, going_more}
 use native.Mathlib.Omega.{arith}
+use Rattle.scope_calls.proofs.NamingLaws.{going_all, going_short, going_not, going_moved}
 use Rattle.scope_calls.proofs.naming.take_out.Goals as goal
+use Rattle.scope_calls.proofs.naming.take_out.Goals.{then-kept, else-kept}
 
-pub loop-i-init : goal.loop-i-init
-loop-i-init c = going_none _ _ _ _ _ (omega arith)
-
-pub stays_beside-kept-requires : goal.stays_beside-kept-requires
-stays_beside-kept-requires c = let g = c.loop-i.invariant in let p = c.requires in (omega (arith, g.moved.as_many_slots), omega (arith, g.moved.as_many_names), going_short g p.1 p.2 p.3 (omega arith))
-
-pub offset_bounds-slots-i : goal.offset_bounds-slots-i
-offset_bounds-slots-i c = let g = c.loop-i.invariant in omega (arith, g.moved.as_many_slots)
-
-pub bounds-slots-i : goal.bounds-slots-i
-bounds-slots-i c = let g = c.loop-i.invariant in omega (arith, g.moved.as_many_slots)
-
-pub move_kept-to-requires : goal.move_kept-to-requires
-move_kept-to-requires c = let g = c.loop-i.invariant in (g.low, omega (arith, g.moved.as_many_slots), omega (arith, g.moved.as_many_names), let p = c.requires in going_short g p.1 p.2 p.3 (omega arith))
+pub of-e-requires : goal.of-e-requires
+of-e-requires c = let p = c.requires in going_short c.loop-i.invariant p.1 p.2 p.3 (omega arith)
 
 pub loop-i-preserved : goal.loop-i-preserved
-loop-i-preserved c = let p = c.requires in going_more c.loop-i.invariant p.1 p.2 (omega arith) c.stays_beside-kept.ensures c.cut_after-cut.ensures c.move_kept-to.ensures
+loop-i-preserved c =
+    let p = c.requires in
+    let g = c.loop-i.invariant in
+    elim c.if-kept.branch [ then-kept w ↦ rw (w.slots-is, w.names-is, w.to-is) (going_moved g p.1 p.2 (omega arith) c.of-e.ensures c.stays_beside-kept.ensures c.cut_after-cut.ensures p.3 w.if-kept.true) | else-kept w ↦ rw (w.slots-is, w.names-is, w.to-is) (going_not g p.1 p.2 (omega arith) c.of-e.ensures c.stays_beside-kept.ensures c.cut_after-cut.ensures w.if-kept.false) ]
 
-pub shape_of-slots : goal.shape_of-slots
-shape_of-slots c = c.loop-i.invariant.moved.as_many_slots
-
-pub shape_of-names : goal.shape_of-names
-shape_of-names c = c.loop-i.invariant.moved.as_many_names
-
-pub returns : goal.returns
-returns c = let p = c.requires in going_all c.loop-i.invariant p.1 p.2 (omega arith)
+pub returns-clause-moved : goal.returns-clause-moved
+returns-clause-moved c = let p = c.requires in going_all c.loop-i.invariant p.1 p.2 (omega arith)

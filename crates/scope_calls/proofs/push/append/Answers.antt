@@ -1,25 +1,44 @@
 -- The entries passed that stay are written.
-use Rattle.scope_calls.proofs.AppendLaws.{going_none, going_all, going_more, going_room}
+use Rattle.std.proofs.Common.{rules, [], ◌≤◌, ◌<◌, length}
+use Rattle.scope_calls.proofs.AppendLaws.{stays_as}
 use native.Mathlib.Omega.{arith}
+use Rattle.scope.specs.Limits.{max_depth}
+use Rattle.lists.specs.List.{entries_of}
+use Rattle.scope.proofs.BrokenLaws.{Ranged, ranged}
+use Rattle.scope.proofs.SoundLaws.{short_name}
+use Rattle.scope.specs.Viewed.{viewed}
+use Rattle.scope_calls.proofs.AppendLaws.{going_all, going_more, going_room, put_none, put_one}
 use Rattle.scope_calls.proofs.push.append.Goals as goal
+use Rattle.scope_calls.proofs.push.append.Goals.{then-kept, else-kept}
 
-pub loop-i-init : goal.loop-i-init
-loop-i-init c = going_none _ _ _ _ _ _ _
+pub overflow_add-raised : goal.overflow_add-raised
+overflow_add-raised c =
+    let es = entries_of c.args.list in
+    let r : Ranged max_depth (viewed c.at-e.result) = rw c.at-e.ensures (ranged max_depth [] es c.requires.0 c.loop-i.i (omega arith)) in
+    omega (arith, r.shallow)
 
-pub stays-kept-requires : goal.stays-kept-requires
-stays-kept-requires c = (omega arith, c.requires.0)
-
-pub put_kept-at-requires : goal.put_kept-at-requires
-put_kept-at-requires c = let g = c.loop-i.invariant in let p = c.requires in (omega arith, p.0, p.1, p.2, (λ e. omega (arith, going_room g (omega arith) (c.stays-kept.ensures _) e, p.3, g.appended.as_many_slots)), (λ e. omega (arith, going_room g (omega arith) (c.stays-kept.ensures _) e, p.4, g.appended.as_many_names)))
+pub put-requires : goal.put-requires
+put-requires c =
+    let es = entries_of c.args.list in
+    let h : c.loop-i.i < length es = omega arith in
+    let r : Ranged max_depth (viewed c.at-e.result) = rw c.at-e.ensures (ranged max_depth [] es c.requires.0 c.loop-i.i h) in
+    let g = c.loop-i.invariant.going in
+    let q = going_room g h c.at-e.ensures (stays_as es _ c.loop-i.i c.loop-i.cut c.at-e.ensures c.stays-kept.ensures) c.if-kept.true in
+    (omega (arith, q, g.appended.as_many_slots), omega (arith, q, g.appended.as_many_names), short_name c.at-e.result.name.now r.named)
 
 pub loop-i-preserved : goal.loop-i-preserved
-loop-i-preserved c = going_more c.loop-i.invariant (omega arith) (c.stays-kept.ensures _) c.cut_after-cut.ensures c.put_kept-at.ensures
+loop-i-preserved c =
+    let es = entries_of c.args.list in
+    let h : c.loop-i.i < length es = omega arith in
+    let g = c.loop-i.invariant.going in
+    let q = stays_as es _ c.loop-i.i c.loop-i.cut c.at-e.ensures c.stays-kept.ensures in
+    let e = viewed c.at-e.result in
+    elim c.if-kept.branch [
+      | then-kept w ↦ record { going = going_more g h c.at-e.ensures q c.cut_after-cut.ensures (rw (w.rows-is, w.at-is) (put_one c.loop-i.at c.args.up e w.if-kept.true w.put.ensures.written)); same = search rules }
+      | else-kept w ↦ record { going = going_more g h c.at-e.ensures q c.cut_after-cut.ensures (rw (w.rows-is, w.at-is) (put_none c.loop-i.rows.slots.now c.loop-i.rows.names.now c.loop-i.at c.args.up e w.if-kept.false)); same = search rules }
+    ]
 
-pub shape_of-slots : goal.shape_of-slots
-shape_of-slots c = c.loop-i.invariant.appended.as_many_slots
-
-pub shape_of-names : goal.shape_of-names
-shape_of-names c = c.loop-i.invariant.appended.as_many_names
-
-pub returns : goal.returns
-returns c = going_all c.loop-i.invariant (omega arith)
+pub returns-clause-written : goal.returns-clause-written
+returns-clause-written c =
+    let h : length (entries_of c.args.list) ≤ c.loop-i.i = omega arith in
+    going_all c.loop-i.invariant.going h

@@ -1,20 +1,17 @@
 -- The definition's tests in order.
-use native.Mathlib.Omega.{arith}
-use mathlib.Core.Path.{sym, ◌∙◌}
-use Rattle.scope.specs.Calls.{pop}
-use Rattle.scope.specs.Answers.{lent}
-use Rattle.scope.proofs.SoundLaws.{sound}
-use Rattle.scope_calls.proofs.StackLaws.{call_broken, pop_empty, pop-one, pop_whole}
+use Rattle.scope_calls.proofs.StackLaws.{held_as, held_count, pop_empty, pop-one, pop_whole}
 use Rattle.scope_calls.proofs.stack.pop.Goals as goal
 
-pub returns-then-is_broken : goal.returns-then-is_broken
-returns-then-is_broken c = let a = c.args in (call_broken (lent a.s a.slots.now a.names.now) pop c.is_broken.ensures c.if-is_broken.true, tt)
-
-pub returns-then-s-eq0 : goal.returns-then-s-eq0
-returns-then-s-eq0 c = let a = c.args in (pop_empty a.s a.slots.now a.names.now c.is_broken.ensures c.if-is_broken.false c.if-s-eq0.true, sym c.is_broken.ensures ∙ c.if-is_broken.false)
-
-pub before_context-entries-requires : goal.before_context-entries-requires
-before_context-entries-requires c = let a = c.args in let s = sound (lent a.s a.slots.now a.names.now) (sym c.is_broken.ensures ∙ c.if-is_broken.false) in let w = s.limits in (omega arith, omega arith)
+pub returns-then-counts-eq0 : goal.returns-then-counts-eq0
+returns-then-counts-eq0 c =
+    let a = c.args.scope in
+    let ok = c.in_ok-sound.ensures.3 in
+    (pop_empty a.counts a.slots.now a.names.now ok c.if-counts-eq0.true, ok)
 
 pub returns : goal.returns
-returns c = let a = c.args in (pop-one a.s a.slots.now a.names.now c.is_broken.ensures c.if-is_broken.false c.before_context-entries.result c.if-s-eq0.false c.before_context-entries.ensures.1, pop_whole a.s a.slots.now a.names.now c.is_broken.ensures c.if-is_broken.false c.before_context-entries.result c.if-s-eq0.false c.before_context-entries.ensures.0 c.before_context-entries.ensures.1)
+returns c =
+    let a = c.args.scope in
+    let ok = c.in_ok-sound.ensures.3 in
+    let b = rw (held_as c.entries.ensures c.in_ok-sound.ensures) at c.before_context.ensures in
+    let few = rw (held_count a.counts a.slots.now a.names.now ok) at b.0 in
+    (pop-one a.counts a.slots.now a.names.now ok c.before_context.result c.if-counts-eq0.false few b.1, pop_whole a.counts a.slots.now a.names.now ok c.before_context.result c.if-counts-eq0.false few b.1)
