@@ -32,14 +32,17 @@ unfolding all_scalar
 all_scalar_list [] = refl
 all_scalar_list (c ∷ cs) = ap (λ b. is_scalar c && b) (all_scalar_list cs)
 
-low_scalar : (c : ℕ) → c < 0xD800 → is_scalar c ≡ true
+pub low_scalar : (c : ℕ) → c ≤ 0xD7FF → is_scalar c ≡ true
 unfolding is_scalar
-low_scalar c h = rw (le-leb 0 c (omega arith), le-leb c 0xD7FF (omega arith))
+low_scalar c h = rw (le-leb 0 c (omega arith), le-leb c 0xD7FF h)
 
 -- Where all lie before the surrogates, all are scalar values.
 pub low_scalars : (cs : List ℕ) → list_all (λ c. ltb c 0xD800) cs ≡ true → true ≡ list_all is_scalar cs
 low_scalars [] h = refl
-low_scalars (c ∷ cs) h = rw (low_scalar c (ltb-true c 0xD800 (both (ltb c 0xD800) (list_all (λ c. ltb c 0xD800) cs) h).0)) (low_scalars cs (both (ltb c 0xD800) (list_all (λ c. ltb c 0xD800) cs) h).1)
+low_scalars (c ∷ cs) h =
+    let b = both (ltb c 0xD800) (list_all (λ c. ltb c 0xD800) cs) h in
+    let l = ltb-true c 0xD800 b.0 in
+    rw (low_scalar c (omega arith)) (low_scalars cs b.1)
 
 pub same_pointwise : (x y : List ℕ) → pointwise eqb x y ≡ same x y
 unfolding same
