@@ -11,6 +11,7 @@ ghost use Rattle.scope.specs.Sound.{sound_scope};
 ghost use Rattle.lexer.specs.Read.{token, outcome};
 ghost use Rattle.lexer.specs.Naming as spec;
 ghost use Rattle.lexer.specs.Token.{fuel};
+ghost use Rattle.lexer.specs.TokenType as spec_type;
 ghost use Rattle.lexer.specs.Places.{prefix, Counted};
 ghost use Rattle.lexer.specs.FlagsOf.{flags_of};
 ghost use Rattle.lexer.specs.Fit.{Searchable};
@@ -38,30 +39,40 @@ fn next_is(rest: &[u32], i: usize, word: &[u8]) -> bool
     }
 }
 
-// How many of the first n parts stand before the first that is `in`, if one is.
-fn before_in(rest: &[u32], from: usize, n: usize) -> Option<usize>
-    requires { from ≤ length rest.now }
-    ensures { Before rest.now from n result }
+// A name at a place: how many parts it has, and where the walk over them ended. No prefix of it is longer than the text, as its value.
+#[derive(Clone, Copy)]
+struct Name<'a> {
+    rest: &'a [u32],
+    from: usize,
+    parts: usize,
+    end: usize,
+    ghost counted: { Counted rest.now from parts end },
+    ghost roomy: { Roomy rest.now from parts (length rest.now) },
+}
+
+// How many parts stand before the first that is `in`, if one is.
+fn before_in(name: Name) -> Option<usize>
+    ensures { Before name.entry.rest.now name.entry.from name.entry.parts result }
 {
-    let mut i = from;
-    for m in 0..n {
-        let part = parts::next_part(rest, i)?;
-        if names::fixed::is(&rest[part.start..part.end], b"in") {
+    let mut i = name.from;
+    for m in 0..name.parts {
+        let part = parts::next_part(name.rest, i)?;
+        i = part.end;
+        if names::fixed::is(&name.rest[part], b"in") {
             return Some(m);
         }
-        i = part.end;
     }
     None
 }
 
 // The place just behind the first m parts.
-fn end_of(rest: &[u32], from: usize, m: usize) -> usize
-    requires { (from ≤ length rest.now) × (0 < m) × (length (prefix rest.now m from) ≡ m) }
-    ensures { result ≡ spec.end_of (prefix rest.now m from) }
+fn end_of(name: Name, m: usize) -> usize
+    requires { (0 < m) × (m ≤ name.parts) }
+    ensures { result ≡ spec.end_of (prefix name.entry.rest.now m name.entry.from) }
 {
-    let mut i = from;
+    let mut i = name.from;
     for _ in 0..m {
-        let Some(part) = parts::next_part(rest, i) else {
+        let Some(part) = parts::next_part(name.rest, i) else {
             return i;
         };
         i = part.end;
@@ -69,45 +80,26 @@ fn end_of(rest: &[u32], from: usize, m: usize) -> usize
     i
 }
 
-// A name of the first m parts, of n, that is read up to `end`.
-fn named(
-    rest: &[u32],
-    from: usize,
-    n: usize,
-    m: usize,
-    end: usize,
-    kind: u32,
-    flags: Flags,
-    reach: usize,
-    out: &mut [u32],
-) -> Outcome
-    requires { (from ≤ length rest.now) × (m ≤ n) × Roomy rest.now from n (length out.old) }
-    ensures { Gives (outcome (token kind (spec.name_of (prefix rest.now m from))) end (flags_of flags)) reach out.old result out.new }
+// The first m parts, read up to `end`: as a name, behind all that the walk has looked at.
+fn named(name: Name, m: usize, end: usize, flags: Flags, out: &mut [u32]) -> Outcome
+    requires { (m ≤ name.parts) × (length name.rest.now ≤ length out.old) }
+    ensures { Gives (outcome (token spec_type.Name (spec.name_of (prefix name.entry.rest.now m name.entry.from))) end (flags_of flags)) (name.entry.end + 1) out.old result out.new }
 {
-    let k = parts::write_parts(rest, from, m, true, out);
+    let k = parts::write_parts(name.rest, name.from, m, true, out);
     Outcome {
-        read: Read::Chars(kind, k),
+        read: Read::Chars(TokenType::NAME, k),
         used: end,
         flags,
-        reach,
+        reach: name.end + 1,
     }
 }
 
-// A name of the first m parts, of n, that is read up to the last of them.
-fn cut_at(
-    rest: &[u32],
-    from: usize,
-    n: usize,
-    m: usize,
-    flags: Flags,
-    reach: usize,
-    out: &mut [u32],
-) -> Outcome
-    requires { (from ≤ length rest.now) × (0 < m) × (m ≤ n) × (length (prefix rest.now n from) ≡ n) × Roomy rest.now from n (length out.old) }
-    ensures { Gives (outcome (token 310 (spec.name_of (prefix rest.now m from))) (spec.end_of (prefix rest.now m from)) (flags_of flags)) reach out.old result out.new }
+// The first m parts, read up to the last of them.
+fn cut_at(name: Name, m: usize, flags: Flags, out: &mut [u32]) -> Outcome
+    requires { (0 < m) × (m ≤ name.parts) × (length name.rest.now ≤ length out.old) }
+    ensures { Gives (outcome (token spec_type.Name (spec.name_of (prefix name.entry.rest.now m name.entry.from))) (spec.end_of (prefix name.entry.rest.now m name.entry.from)) (flags_of flags)) (name.entry.end + 1) out.old result out.new }
 {
-    let end = end_of(rest, from, m);
-    named(rest, from, n, m, end, TokenType::NAME, flags, reach, out)
+    named(name, m, end_of(name, m), flags, out)
 }
 
 fn is_type(name: &[u32], flags: Flags) -> bool
@@ -123,116 +115,93 @@ fn is_temporal(name: &[u32], rest: &[u32], end: usize) -> bool
         && lexer::look::is_at(rest, end, Char::LEFT_PAREN)
 }
 
-// All parts, up to `end`: tried as a type name, then as a temporal name before `(`.
-fn all_parts(
-    rest: &[u32],
-    from: usize,
-    n: usize,
-    end: usize,
-    flags: Flags,
-    out: &mut [u32],
-) -> Outcome
-    requires { (from ≤ length rest.now) × (end ≤ length rest.now) × Roomy rest.now from n (length out.old) }
-    ensures { (is_name : List ℕ → Bool) → Gives (spec.all_parts (flags_of flags) is_name from (prefix rest.now n from) (cell_at rest.now end) end) (end + 1) out.old result out.new }
+// All parts: tried as a type name, then as a temporal name before `(`.
+fn all_parts(name: Name, flags: Flags, out: &mut [u32]) -> Outcome
+    requires { length name.rest.now ≤ length out.old }
+    ensures { (is_name : List ℕ → Bool) → Gives (spec.all_parts (flags_of flags) is_name name.entry.from (prefix name.entry.rest.now name.entry.parts name.entry.from) (cell_at name.entry.rest.now name.entry.end) name.entry.end) (name.entry.end + 1) out.old result out.new }
 {
-    let k = parts::write_parts(rest, from, n, true, out);
+    let k = parts::write_parts(name.rest, name.from, name.parts, true, out);
+    let joined = Outcome {
+        read: Read::Chars(TokenType::NAME, k),
+        used: name.end,
+        flags,
+        reach: name.end + 1,
+    };
     if is_type(&out[..k], flags) {
         return Outcome {
             read: Read::Chars(TokenType::BUILT_IN_TYPE_NAME, k),
-            used: end,
             flags: flags.clear(Flag::TypeName),
-            reach: end + 1,
+            ..joined
         };
     }
-    if is_temporal(&out[..k], rest, end) {
+    if is_temporal(&out[..k], name.rest, name.end) {
         return Outcome {
             read: Read::Chars(TokenType::NAME_DATE_TIME, k),
-            used: end,
-            flags,
-            reach: end + 1,
+            ..joined
         };
     }
-    Outcome {
-        read: Read::Chars(TokenType::NAME, k),
-        used: end,
-        flags,
-        reach: end + 1,
-    }
+    joined
 }
 
 // By the longest prefix found. A property match clears `after_dot`, a scope match clears nothing.
 fn by_prefix(
-    rest: &[u32],
-    from: usize,
-    n: usize,
-    end: usize,
+    name: Name,
     flags: Flags,
     known: &Known,
     out: &mut [u32],
     scratch: &mut [u32],
 ) -> Outcome
-    requires { Counted rest.now from n end × Roomy rest.now from n (length out.old) × Searchable rest.now scratch.old }
-    ensures { Gives (by_prefix_of (flags_of flags) (is_name (sound_scope known.now.scope)) rest.now from n end) (end + 1) out.old result out.new
+    requires { (length name.rest.now ≤ length out.old) × Searchable name.rest.now scratch.old }
+    ensures { Gives (by_prefix_of (flags_of flags) (is_name (sound_scope known.now.scope)) name.entry.rest.now name.entry.from name.entry.parts name.entry.end) (name.entry.end + 1) out.old result out.new
         × (scratch.new ≡ scratch.old) }
 {
-    let Some(p) = prefix::longest_prefix(rest, from, n, flags, known, scratch) else {
-        return all_parts(rest, from, n, end, flags, out);
+    let Some(p) = prefix::longest_prefix(name.rest, name.from, name.parts, flags, known, scratch)
+    else {
+        return all_parts(name, flags, out);
     };
     let after = match p.found {
         Found::Property => flags.clear(Flag::AfterDot),
         Found::Name => flags,
     };
-    cut_at(rest, from, n, p.parts, after, end + 1, out)
+    cut_at(name, p.parts, after, out)
 }
 
 // All parts before a colon, else by the longest prefix.
 fn by_colon(
-    rest: &[u32],
-    from: usize,
-    n: usize,
-    end: usize,
+    name: Name,
     flags: Flags,
     known: &Known,
     out: &mut [u32],
     scratch: &mut [u32],
 ) -> Outcome
-    requires { Counted rest.now from n end × Roomy rest.now from n (length out.old) × Searchable rest.now scratch.old }
-    ensures { Gives (by_in_of (flags_of flags) (is_name (sound_scope known.now.scope)) rest.now from n end None) (end + 1) out.old result out.new
+    requires { (length name.rest.now ≤ length out.old) × Searchable name.rest.now scratch.old }
+    ensures { Gives (by_in_of (flags_of flags) (is_name (sound_scope known.now.scope)) name.entry.rest.now name.entry.from name.entry.parts name.entry.end None) (name.entry.end + 1) out.old result out.new
         × (scratch.new ≡ scratch.old) }
 {
-    if lexer::look::is_at(rest, end, Char::COLON) {
-        return named(rest, from, n, n, end, TokenType::NAME, flags, end + 1, out);
+    if lexer::look::is_at(name.rest, name.end, Char::COLON) {
+        return named(name, name.parts, name.end, flags, out);
     }
-    by_prefix(rest, from, n, end, flags, known, out, scratch)
+    by_prefix(name, flags, known, out, scratch)
 }
 
 // Under `till_in` the parts before `in`, of which there must be one.
-fn by_in(
-    rest: &[u32],
-    from: usize,
-    n: usize,
-    end: usize,
-    flags: Flags,
-    known: &Known,
-    out: &mut [u32],
-    scratch: &mut [u32],
-) -> Outcome
-    requires { Counted rest.now from n end × Roomy rest.now from n (length out.old) × Searchable rest.now scratch.old }
-    ensures { Gives (cut_in_of (flags_of flags) (is_name (sound_scope known.now.scope)) rest.now from n end) (end + 1) out.old result out.new
+fn by_in(name: Name, flags: Flags, known: &Known, out: &mut [u32], scratch: &mut [u32]) -> Outcome
+    requires { (length name.rest.now ≤ length out.old) × Searchable name.rest.now scratch.old }
+    ensures { Gives (cut_in_of (flags_of flags) (is_name (sound_scope known.now.scope)) name.entry.rest.now name.entry.from name.entry.parts name.entry.end) (name.entry.end + 1) out.old result out.new
         × (scratch.new ≡ scratch.old) }
 {
     if !flags.till_in {
-        return by_colon(rest, from, n, end, flags, known, out, scratch);
+        return by_colon(name, flags, known, out, scratch);
     }
-    match before_in(rest, from, n) {
-        None => by_colon(rest, from, n, end, flags, known, out, scratch),
+    match before_in(name) {
+        None => by_colon(name, flags, known, out, scratch),
         Some(0) => Outcome {
             read: Read::Refused(Refusal::STARTS_WITH_IN, 0),
-            used: from,
+            used: name.from,
             flags,
-            reach: end + 1,
+            reach: name.end + 1,
         },
-        Some(m) => cut_at(rest, from, n, m, flags.clear(Flag::TillIn), end + 1, out),
+        Some(m) => cut_at(name, m, flags.clear(Flag::TillIn), out),
     }
 }
 
@@ -250,11 +219,15 @@ pub fn read_name(
     ensures { Takes rest.now 0 (spec.read_name fuel (flags_of flags) (is_name (sound_scope known.now.scope)) i) out.old result out.new
         × (scratch.new ≡ scratch.old) }
 {
-    let w = parts::count_parts(rest, i);
-    let n = w.parts;
-    let end = w.end;
+    let walked = parts::count_parts(rest, i);
+    let name = Name {
+        rest,
+        from: i,
+        parts: walked.parts,
+        end: walked.end,
+    };
     if next_is(rest, i, b"item") {
-        return cut_at(rest, i, n, 1, flags, end + 1, out);
+        return cut_at(name, 1, flags, out);
     }
-    by_in(rest, i, n, end, flags, known, out, scratch)
+    by_in(name, flags, known, out, scratch)
 }

@@ -4,7 +4,7 @@ use Rattle.naming.proofs.CutLaws.{seeking_none, seeking_found, seeking_more, see
 use Rattle.naming.proofs.name.before_in.Goals as goal
 
 pub loop-m-init : goal.loop-m-init
-loop-m-init c = seeking_none _ _ _ (omega arith)
+loop-m-init c = let k = c.args.name.counted in seeking_none _ _ _ (omega (arith, k.on, k.within))
 
 pub returns-in_err-part : goal.returns-in_err-part
 returns-in_err-part c = rw c.from_residual.ensures (seeking_over c.loop-m.invariant c.next_part.ensures c.in_err-part.was)

@@ -3,4 +3,4 @@ use Rattle.naming.proofs.CutLaws.{Seeking}
 use Rattle.naming.proofs.name.before_in.Given as goal
 
 abbrev pub invariant-loop-m : goal.invariant-loop-m
-invariant-loop-m l = Seeking l.rest l.from l.n l.i l.m
+invariant-loop-m l = Seeking l.name.rest.now l.name.from l.name.parts l.i l.m

@@ -7,7 +7,7 @@ use mathlib.Core.Path.{refl}
 use Rattle.naming.proofs.name.by_colon.Goals as goal
 
 pub returns-then-is_at : goal.returns-then-is_at
-returns-then-is_at c = let x = c.args in (gives_as (colon_there (flags_of x.flags) (is_name (sound_scope x.known.now.scope)) x.rest.now x.from x.n x.end c.is_at.ensures c.if-is_at.true) c.named.ensures, refl)
+returns-then-is_at c = let x = c.args in let n = x.name in (gives_as (colon_there (flags_of x.flags) (is_name (sound_scope x.known.now.scope)) n.rest.now n.from n.parts n.end c.is_at.ensures c.if-is_at.true) c.named.ensures, refl)
 
 pub returns : goal.returns
-returns c = let x = c.args in (gives_as (colon_not (flags_of x.flags) (is_name (sound_scope x.known.now.scope)) x.rest.now x.from x.n x.end c.is_at.ensures c.if-is_at.false) c.by_prefix.ensures.0, c.by_prefix.ensures.1)
+returns c = let x = c.args in let n = x.name in (gives_as (colon_not (flags_of x.flags) (is_name (sound_scope x.known.now.scope)) n.rest.now n.from n.parts n.end c.is_at.ensures c.if-is_at.false) c.by_prefix.ensures.0, c.by_prefix.ensures.1)

@@ -3,4 +3,4 @@ use Rattle.naming.proofs.CutLaws.{Stepping}
 use Rattle.naming.proofs.name.end_of.Given as goal
 
 abbrev pub invariant-loop : goal.invariant-loop
-invariant-loop l = Stepping l.rest l.from l.i l.counter
+invariant-loop l = Stepping l.name.rest.now l.name.from l.i l.counter
