@@ -1,5 +1,6 @@
 -- The names of bif.rs: those of the built-in functions.
-use Rattle.std.specs.Prelude.{◌≡◌, Bool, cond, List, [], ◌∷◌, map, ℕ, zero, suc, ltb, length, take, drop}
+use Rattle.std.specs.Prelude.{Bool, List, [], ◌∷◌, map, ℕ, zero, suc}
+use Rattle.std.specs.Borrow.{Bor}
 use Rattle.reading.specs.Codes.{codes}
 use Rattle.names.specs.Same.{member}
 
@@ -17,11 +18,12 @@ function_names = map codes
 abbrev pub is_function_name : List ℕ → Bool
 is_function_name t = member t function_names
 
--- The names of n cells that stand one behind the other, each with a comma behind it; so many at most.
-unfoldable pub listed : ℕ → ℕ → List ℕ → List (List ℕ)
-listed zero n l = []
-listed (suc f) n l = cond (ltb n (length l)) (take n l ∷ listed f n (drop (suc n) l)) []
+-- The names of a table.
+abbrev pub names_of : Bor (List (Bor (List ℕ))) → List (List ℕ)
+names_of names = map (λ t. t.now) names.now
 
--- Whether the text is one of the names that stand so, all as long as it.
-pub record Among (s l : List ℕ) (r : Bool) : Type 0 where
-  pub says : r ≡ member s (listed (length l) (length s) l)
+-- Those at a place; none behind the last.
+unfoldable pub at_place : List (List (List ℕ)) → ℕ → List (List ℕ)
+at_place [] n = []
+at_place (names ∷ tables) zero = names
+at_place (names ∷ tables) (suc n) = at_place tables n
