@@ -1,10 +1,11 @@
 -- Adding a parsed name.
 use mathlib.Core.Path.{◌≡◌, refl, sym, ◌∙◌, ap}
 use mathlib.Core.Bool.{Bool, true, false}
-use mathlib.Core.List.{List, [], ◌∷◌, ◌++◌, map}
+use mathlib.Core.List.{List, [], ◌∷◌, ◌++◌}
 use Prim.Native.Nat.{ℕ, suc, ◌+◌, ◌<◌, ◌≤◌}
 use native.Mathlib.Omega.{arith}
-use lib.ListN.{length, drop, length-drop}
+use lib.ListN.{length, drop, length-drop, length-map}
+use Rattle.std.proofs.lemmas.List.{map-append}
 use lib.Seq.{drop-append-le, take-append-le}
 use borrow.Author.Tests.{lt-ltb, le-ltb}
 use Rattle.text.specs.Refusals.{broken_scope, over_limit}
@@ -24,14 +25,6 @@ use Rattle.scope.proofs.SoundLaws.{sound}
 use Rattle.scope_calls.proofs.UnbrokenLaws.{parsed_leaves}
 use Rattle.scope_calls.proofs.WholeLaws.{whole, fits_parsed}
 
-names_snoc : (es : List Entry) (e : Entry) → map (λ f. f.name) (es ++ (e ∷ [])) ≡ map (λ f. f.name) es ++ (e.name ∷ [])
-names_snoc [] e = refl
-names_snoc (a ∷ es) e = ap (λ z. a.name ∷ z) (names_snoc es e)
-
-names_length : (es : List Entry) → length (map (λ f. f.name) es) ≡ length es
-names_length [] = refl
-names_length (a ∷ es) = ap suc (names_length es)
-
 -- One row written behind those of the parsed names.
 module _ {ss ns ss' ns' : List (List ℕ)} (k n : ℕ) (e : Entry) (few : k ≤ max_entries) (h : max_entries + n < length ss) (j : max_entries + n < length ns)
     (a : Appended ss ns ss' ns' (max_entries + n) (max_entries + n + 1) (e ∷ [])) where
@@ -47,7 +40,7 @@ module _ {ss ns ss' ns' : List (List ℕ)} (k n : ℕ) (e : Entry) (few : k ≤ 
       ∙ ap (λ z. z ++ (e ∷ [])) (drop-held max_entries n (max_entries + n) ss ns refl (omega arith) (omega arith)))
 
   pub one_parsed : parsed_names (n + 1) ss' ns' ≡ parsed_names n ss ns ++ (e.name ∷ [])
-  one_parsed = rw one-held (names_snoc (held n (drop max_entries ss) (drop max_entries ns)) e)
+  one_parsed = rw one-held (map-append (λ f. f.name) (held n (drop max_entries ss) (drop max_entries ns)) (e ∷ []))
 
 -- Whether a name is one of the parsed ones of the scope that was lent, as it is asked of the checked one.
 pub known_as : (x : List ℕ) {b t : Bool} {ps : List (List ℕ)} {s' s : Scope} {ss' ss ns' ns : List (List ℕ)} {R : Type 0} → b ≡ member x (drop 0 ps) → ps ≡ parsed_names s'.parsed ss' ns' → (s' ≡ s) × (ss' ≡ ss) × (ns' ≡ ns) × R → b ≡ t
@@ -68,7 +61,7 @@ module _ (x : List ℕ) (s : Scope) (ss ns : List (List ℕ)) (ok : is_broken (l
       count : length (parsed_names s.parsed ss ns) ≡ s.parsed
       count =
           let w = (sound (lent s ss ns) ok).limits in
-          names_length (held s.parsed (drop max_entries ss) (drop max_entries ns)) ∙ held-length s.parsed (drop max_entries ss) (drop max_entries ns) (rw length-drop (omega arith)) (rw length-drop (omega arith))
+          length-map (held s.parsed (drop max_entries ss) (drop max_entries ns)) (λ f. f.name) ∙ held-length s.parsed (drop max_entries ss) (drop max_entries ns) (rw length-drop (omega arith)) (rw length-drop (omega arith))
 
       pub add_full : max_parsed ≤ s.parsed → refused over_limit ≡ on_scope (lent s ss ns) (add_parsed_name x)
       unfolding add_parsed_name

@@ -6,7 +6,8 @@ use Prim.Native.Nat.{ℕ, suc, ◌+◌, ◌-◌, ◌<◌, ◌≤◌, min}
 use native.Mathlib.Omega.{arith}
 use native.Mathlib.Nat.{add-zero}
 use native.Mathlib.Numerals.{add-one}
-use lib.ListN.{length, get_or, drop, length-append}
+use lib.ListN.{length, get_or, drop, length-append, length-map}
+use Rattle.std.proofs.lemmas.List.{map-append}
 use borrow.Author.Tests.{lt-ltb, le-ltb}
 use Rattle.text.specs.Refusals.{broken_scope, over_limit}
 use Rattle.scope.specs.declared.scope.Scope.{Scope}
@@ -27,14 +28,6 @@ use Rattle.scope_calls.proofs.WrittenLaws.{appended_none, appended_more, behind}
 use Rattle.scope.specs.Viewed.{no_entry}
 use Rattle.scope.proofs.BrokenLaws.{entries_end, entry_step, broken_all}
 use Rattle.scope.proofs.ListLaws.{settled_parts}
-
-pub map-append : {A B : Type 0} (f : A → B) (xs ys : List A) → map f (xs ++ ys) ≡ map f xs ++ map f ys
-map-append f [] ys = refl
-map-append f (x ∷ xs) ys = ap (λ z. f x ∷ z) (map-append f xs ys)
-
-pub map-length : {A B : Type 0} (f : A → B) (xs : List A) → length (map f xs) ≡ length xs
-map-length f [] = refl
-map-length f (x ∷ xs) = ap suc (map-length f xs)
 
 pub raised_none : (es : List Entry) → map (raised 0) es ≡ es
 raised_none [] = refl
@@ -88,7 +81,7 @@ module _ {ss₀ ns₀ ss ns : List (List ℕ)} {from at up cut i : ℕ} {es : Li
     unfolding keep
     going_room t =
         let z = rw (length-append, length-append, t) at (ap length (parts {c = cut_after cut e.depth b} refl)) in
-        omega (arith, z, g.appended.place, map-length (raised up) g.done)
+        omega (arith, z, g.appended.place, length-map g.done (raised up))
 
 -- Whether an entry stays, as it is asked by its place.
 pub stays_as : (es fs : List Entry) (i cut : ℕ) {e : Entry} {b : Bool} → e ≡ get_or es i no_entry → b ≡ stays cut (get_or es i no_entry) fs → b ≡ stays cut e fs
@@ -110,9 +103,6 @@ few m h = omega arith
 
 -- The call.
 module _ (s : Scope) (ss ns : List (List ℕ)) (cs : List ℕ) (rs : List (List ℕ)) (ok : is_broken (lent s ss ns) ≡ false) where
-  pub push_outside : any_outside cs rs ≡ true → refused broken_scope ≡ on_scope (lent s ss ns) (push_list cs rs)
-  push_outside u = rw (ok, u)
-
   -- The list is that of the context that is pushed.
   module _ (u : any_outside cs rs ≡ false) {k : ℕ} (next : k ≡ suc s.contexts) where
     broken : is_broken_list (listed (suc s.contexts) cs rs) ≡ any_broken_to max_depth [] (listed k cs rs)
@@ -157,6 +147,6 @@ module _ (s : Scope) (ss ns : List (List ℕ)) (cs : List ℕ) (rs : List (List 
         push_whole {ss'} {ns'} {to} f a =
             let w = sound (lent s ss ns) ok in
             let l = w.limits in
-            let z : to ≤ max_entries = omega (arith, a.place, m, m₀, map-length (raised 0) (settled (listed k cs rs))) in
+            let z : to ≤ max_entries = omega (arith, a.place, m, m₀, length-map (settled (listed k cs rs)) (raised 0)) in
             whole (lent s ss ns) (lent (record { contexts = s.contexts + 1; entries = to; parsed = s.parsed }) ss' ns') (push_list cs rs) (λ y u. push_list_leaves y u cs rs) (push_done f a)
             (fits_written w (s.contexts + 1) s.entries to (omega arith) (omega arith) z a.as_many_slots a.as_many_names a.short (behind ss' ss z a.slots_behind))

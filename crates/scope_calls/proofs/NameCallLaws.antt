@@ -4,7 +4,7 @@ use mathlib.Core.Bool.{true, false}
 use mathlib.Core.List.{List, [], ◌∷◌, ◌++◌, map, append_assoc}
 use Prim.Native.Nat.{ℕ, suc, ◌+◌, ◌-◌, ◌<◌, ◌≤◌}
 use native.Mathlib.Omega.{arith}
-use lib.ListN.{length, take, drop, length-append}
+use lib.ListN.{length, take, drop, length-append, length-map}
 use borrow.Author.Tests.{eq-eqb, ne_eqb, lt-ltb, le-ltb}
 use Rattle.text.specs.Refusals.{broken_scope, over_limit}
 use Rattle.scope.specs.declared.scope.Scope.{Scope}
@@ -25,7 +25,6 @@ use Rattle.scope_calls.proofs.UnbrokenLaws.{Unbroken, Leaves}
 use Rattle.scope_calls.proofs.WholeLaws.{whole, fits_written}
 use Rattle.scope_calls.proofs.SettlesLaws.{AllBelow, top_in, top_distinct, settles}
 use Rattle.scope_calls.proofs.DeeperLaws.{list_below, deeper-raised, settled_below}
-use Rattle.scope_calls.proofs.AppendLaws.{map-length}
 use Rattle.scope_calls.proofs.NamingLaws.{moved_appended}
 use Rattle.scope_calls.proofs.StackLaws.{held_count}
 use Rattle.scope_calls.proofs.WrittenLaws.{take-held}
@@ -101,9 +100,6 @@ module _ (s : Scope) (ss ns : List (List ℕ)) (ok : is_broken (lent s ss ns) �
   entry-added u e = e ∙ rw (ok, u)
 
 module _ (s : Scope) (ss ns : List (List ℕ)) (ok : is_broken (lent s ss ns) ≡ false) (x cs : List ℕ) (rs : List (List ℕ)) where
-  pub context_outside : any_outside cs rs ≡ true → refused broken_scope ≡ on_scope (lent s ss ns) (set_context_list x cs rs)
-  context_outside u = rw (ok, u)
-
   module _ (u : any_outside cs rs ≡ false) where
     pub context_name : is_broken_name x ≡ true → refused broken_scope ≡ on_scope (lent s ss ns) (set_context_list x cs rs)
     unfolding set_context
@@ -125,12 +121,12 @@ new_place w e l a = omega (arith, l, a.place, length-append w (e ∷ []))
 
 module _ (es : List Entry) (h : any_broken_to (max_depth - 1) [] es ≡ false) {n : ℕ} (m : n ≡ length (settled es)) where
   pub count_below : n ≡ length (settled (map deeper es))
-  count_below = m ∙ sym (ap length (settled_below es h) ∙ map-length deeper (settled es))
+  count_below = m ∙ sym (ap length (settled_below es h) ∙ length-map (settled es) deeper)
 
   pub context_moved : {ss ns ss' ns' ss'' ns'' : List (List ℕ)} {from to left end : ℕ} (w : List Entry) (e : Entry) → left ≡ length w → Moved ss ns ss' ns' from to max_entries (w ++ (e ∷ []))
       → Appended ss' ns' ss'' ns'' to end (map (raised 1) (settled es)) → from + left + n < max_entries → Moved ss ns ss'' ns'' from end max_entries (w ++ (e ∷ settled (map deeper es)))
   context_moved w e l a p f =
       let z = new_place w e l a in
-      let k = map-length (raised 1) (settled es) in
+      let k = length-map (settled es) (raised 1) in
       let q = moved_appended {back' = max_entries} a p (omega arith) (omega (arith, p.place)) in
       rw (settled_below es h, ← deeper-raised (settled es)) (rw (append_assoc w (e ∷ []) (map (raised 1) (settled es))) at q)
