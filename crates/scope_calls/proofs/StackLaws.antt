@@ -1,12 +1,14 @@
 -- Popping, and pushing an empty context.
-use mathlib.Core.Path.{◌≡◌, sym, ◌∙◌}
-use mathlib.Core.Bool.{false}
-use mathlib.Core.List.{List, [], ◌∷◌, ◌++◌, append-nil, append_assoc}
+use mathlib.Core.Path.{◌≡◌, refl, ◌∙◌, ap}
+use mathlib.Core.Bool.{Bool, true, false, cond}
+use mathlib.Core.List.{List, [], ◌∷◌, append-nil}
 use Prim.Native.Nat.{ℕ, suc, ◌+◌, ◌-◌, ◌<◌, ◌≤◌}
 use native.Mathlib.Omega.{arith}
-use native.Mathlib.Numerals.{add-one}
+use native.Mathlib.Numerals.{add-one, one-add}
+use lib.Dec.{ltb}
+use Rattle.std.specs.List.{prefix_len, take_while}
+use Rattle.std.proofs.lemmas.List.Folds.{length-prefix_len}
 use lib.ListN.{length, get_or, take, drop}
-use lib.Seq.{take-suc}
 use borrow.Author.Tests.{eq-eqb, ne_eqb, lt-ltb, le-ltb}
 use Rattle.text.specs.Refusals.{over_limit}
 use Rattle.scope.specs.declared.scope.Scope.{Scope}
@@ -15,43 +17,35 @@ use Rattle.scope.specs.Settled.{settled_from}
 use Rattle.scope.specs.Broken.{any_broken}
 use Rattle.scope.specs.Calls.{changed, refused, under, top, push, push_default, pop}
 use Rattle.scope.specs.Entries.{Entry}
-use Rattle.scope.specs.Lent.{held, scope_of, is_broken, on_scope}
-use Rattle.scope.specs.Viewed.{no_entry}
+use Rattle.scope.specs.Lent.{entry_of, held, scope_of, is_broken, on_scope}
+use Rattle.scope.specs.Rows.{all_held}
 use Rattle.scope.specs.Answers.{lent}
 use Rattle.scope.proofs.HeldLaws.{held-length}
-use Rattle.scope.proofs.BrokenLaws.{entries_end, entry_step}
 use Rattle.scope_calls.proofs.WrittenLaws.{take-held}
 use Rattle.scope.proofs.SoundLaws.{sound}
 use Rattle.scope_calls.proofs.UnbrokenLaws.{pop_leaves, push_leaves}
 use Rattle.scope_calls.proofs.WholeLaws.{whole, fits_fewer}
 
--- The search for the first entry of context k.
-module _ (k : ℕ) (es : List Entry) (i : ℕ) where
-  module _ (h : length es ≤ i) where
-    pub under_end : take i es ++ under k (drop i es) ≡ take i es
-    unfolding under
-    under_end = rw (entries_end es i h) (append-nil _)
+-- The entries before context k: those of the rows in front whose context is less.
+module _ (k : ℕ) where
+  abbrev lower : List ℕ → Bool
+  lower s = ltb (get_or s 0 0) k
 
-    pub top_end : top k (drop i es) ≡ drop i es
-    unfolding top
-    top_end = rw (entries_end es i h)
+  abbrev Parted : ℕ → List Entry → List Entry → List Entry → Type 0
+  Parted r es low rest = (r ≤ length es) × (take r es ≡ low) × (drop r es ≡ rest)
 
-  module _ {e : Entry} (at : e ≡ get_or es i no_entry) (h : i < length es) where
-    pub under_stop : k ≤ e.context → take i es ++ under k (drop i es) ≡ take i es
-    unfolding under
-    under_stop l = rw (entry_step es i at h, le-ltb e.context k l) (append-nil _)
+  parted : (b : Bool) (m : ℕ) (e : Entry) (es : List Entry) {low rest : List Entry} → Parted m es low rest → Parted (cond b (1 + m) 0) (e ∷ es) (cond b (e ∷ low) []) (cond b rest (e ∷ es))
+  parted true m e es h = rw one-add (omega arith, ap (λ z. e ∷ z) h.1, h.2)
+  parted false m e es h = (omega arith, refl, refl)
 
-    pub top_stop : k ≤ e.context → top k (drop i es) ≡ drop i es
-    unfolding top
-    top_stop l = rw (entry_step es i at h, le-ltb e.context k l)
+  rows_parted : (ss ns : List (List ℕ)) → length ss ≡ length ns → Parted (prefix_len lower ss) (all_held ss ns) (under k (all_held ss ns)) (top k (all_held ss ns))
+  unfolding held under top
+  rows_parted [] ns p = (omega arith, refl, refl)
+  rows_parted (s ∷ ss) [] p = absurd (omega arith)
+  rows_parted (s ∷ ss) (n ∷ ns) p = parted (lower s) _ (entry_of s n) _ (rows_parted ss ns (omega arith))
 
-    pub under_more : e.context < k → take i es ++ under k (drop i es) ≡ take (i + 1) es ++ under k (drop (i + 1) es)
-    unfolding under
-    under_more l = rw (entry_step es i at h, lt-ltb _ _ l, add-one, take-suc es i no_entry h, ← at) (sym (append_assoc (take i es) (e ∷ []) _))
-
-    pub top_more : e.context < k → top k (drop i es) ≡ top k (drop (i + 1) es)
-    unfolding top
-    top_more l = rw (entry_step es i at h, lt-ltb _ _ l)
+  pub before_parted : (ss ns : List (List ℕ)) → length ss ≡ length ns → {r : ℕ} → r ≡ length (take_while lower ss) → Parted r (all_held ss ns) (under k (all_held ss ns)) (top k (all_held ss ns))
+  before_parted ss ns p h = rw (h, length-prefix_len lower ss) (rows_parted ss ns p)
 
 -- The entries of a checked scope are those of the scope that was lent.
 pub held_as : {es : List Entry} {s' s : Scope} {ss' ss ns' ns : List (List ℕ)} {R : Type 0} → es ≡ held s'.entries ss' ns' → (s' ≡ s) × (ss' ≡ ss) × (ns' ≡ ns) × R → es ≡ held s.entries ss ns

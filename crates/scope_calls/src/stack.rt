@@ -1,15 +1,25 @@
 // Contexts pushed and popped.
-ghost use Rattle.std.specs.Prelude.{◌≡◌, ◌≤◌, length, take, drop};
+ghost use Rattle.std.specs.Prelude.{◌≡◌, ◌≤◌, ltb, length, slice_index, take, drop};
+ghost use Rattle.std.specs.List.{take_while};
 ghost use Rattle.scope.specs.Calls as spec;
 ghost use Rattle.scope.specs.Lent.{on_scope};
 ghost use Rattle.scope.specs.Sound.{rows_entries};
 ghost use Rattle.scope.specs.Answers.{lent, answer_of, Whole};
 
-use scope::entries::Entries;
 use scope::lent::Lent;
 use scope::rows::Rows;
-use scope::scope::Scope;
+use scope::scope::{Scope, Slot};
 use text::refusal::Refusal;
+
+// How many slots in front have a context below k.
+fn count_below(slots: &[[u32; Slot::NUMBERS]], k: usize) -> usize
+    ensures { result ≡ length (take_while (λ slot. ltb (slice_index slot 0) k) slots.now) }
+{
+    slots
+        .iter()
+        .take_while(|slot| (slot[Slot::CONTEXT] as usize) < k)
+        .count()
+}
 
 // The number of entries before the first of context k.
 // Ruled out, among others: the entries of context k counted.
@@ -17,13 +27,7 @@ pub fn before_context(entries: Rows, k: usize) -> usize
     ensures { (result ≤ length (rows_entries entries.entry)) × (take result (rows_entries entries.entry) ≡ spec.under k (rows_entries entries.entry))
         × (drop result (rows_entries entries.entry) ≡ spec.top k (rows_entries entries.entry)) }
 {
-    let count = entries.count();
-    for i in 0..count {
-        if k <= entries.at(i).context as usize {
-            return i;
-        }
-    }
-    count
+    count_below(entries.slots, k)
 }
 
 // Pops the last context; the parsed names stay. Nothing is written.
