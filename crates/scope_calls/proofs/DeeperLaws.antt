@@ -5,8 +5,8 @@ use mathlib.Core.List.{List, [], ◌∷◌, ◌++◌, map}
 use Prim.Native.Nat.{ℕ, suc, ◌-◌, ◌≤◌}
 use native.Mathlib.Omega.{arith}
 use native.Mathlib.Numerals.{add-one}
-use lib.Dec.{eqb, ltb, leb}
-use borrow.Author.Tests.{eq-eqb, ne_eqb, le-leb, lt-leb, lt-ltb, le-ltb, eqb-true, eqb-false, ltb-false}
+use lib.Dec.{ltb, leb, eqb-suc-suc, leb-suc-suc}
+use borrow.Author.Tests.{eq-eqb, ne_eqb, lt-leb, lt-ltb, le-ltb, ltb-false}
 use Rattle.reading.proofs.Test.{by_order, or_left, or_right}
 use Rattle.scope.specs.Limits.{max_depth}
 use Rattle.scope.specs.Entries.{Entry, context_kind}
@@ -18,18 +18,8 @@ use Rattle.lists.proofs.OneContext.{AllIn}
 use Rattle.scope_calls.proofs.SettlesLaws.{AllBelow}
 
 -- Tests of numbers, both one more.
-eqb_suc : (a b : ℕ) → eqb (suc a) (suc b) ≡ eqb a b
-eqb_suc a b = go (eqb a b) refl
-  where
-    go : (t : Bool) → eqb a b ≡ t → eqb (suc a) (suc b) ≡ t
-    go true e = let z = eqb-true a b e in eq-eqb (suc a) (suc b) (omega arith)
-    go false e = ne_eqb (suc a) (suc b) (λ z. eqb-false a b e (omega arith))
-
 ltb_suc : (a b : ℕ) → ltb (suc a) (suc b) ≡ ltb a b
-ltb_suc a b = by_order a b (λ l. lt-ltb (suc a) (suc b) (omega arith) ∙ sym (lt-ltb a b l)) (λ l. le-ltb (suc a) (suc b) (omega arith) ∙ sym (le-ltb a b l))
-
-leb_suc : (a b : ℕ) → leb (suc a) (suc b) ≡ leb a b
-leb_suc a b = by_order b a (λ l. lt-leb (suc a) (suc b) (omega arith) ∙ sym (lt-leb a b l)) (λ l. le-leb (suc a) (suc b) (omega arith) ∙ sym (le-leb a b l))
+ltb_suc a b = leb-suc-suc (suc a) b
 
 pub deeper_below : (c : ℕ) (es : List Entry) → AllIn c es → AllBelow c (map deeper es)
 deeper_below c [] h = tt
@@ -43,7 +33,7 @@ deeper-raised (e ∷ es) = rw (add-one e.depth, deeper-raised es)
 repeated_deeper : (e : Entry) (es : List Entry) → is_repeated (deeper e) (map deeper es) ≡ is_repeated e es
 unfolding is_repeated
 repeated_deeper e [] = refl
-repeated_deeper e (f ∷ fs) = rw (ltb_suc f.depth e.depth, eqb_suc f.depth e.depth, repeated_deeper e fs)
+repeated_deeper e (f ∷ fs) = rw (ltb_suc f.depth e.depth, eqb-suc-suc f.depth e.depth, repeated_deeper e fs)
 
 -- No depth above most.
 abbrev Shallow : ℕ → List Entry → Type 0
@@ -64,7 +54,7 @@ shallow most before (e ∷ es) h =
 settled-deeper : (cut cut' : ℕ) (es : List Entry) → Shallow (max_depth - 1) es → ((d : ℕ) → d ≤ max_depth - 1 → leb cut' (suc d) ≡ leb cut d) → settled_from cut' (map deeper es) ≡ map deeper (settled_from cut es)
 unfolding settled_from
 settled-deeper cut cut' [] s h = refl
-settled-deeper cut cut' (e ∷ es) s h = rw (h e.depth s.0, repeated_deeper e es, settled-deeper cut cut' es s.1 h, settled-deeper (suc e.depth) (suc (suc e.depth)) es s.1 (λ d l. leb_suc (suc e.depth) d), settled-deeper (suc max_depth) (suc max_depth) es s.1 (λ d l. top d l))
+settled-deeper cut cut' (e ∷ es) s h = rw (h e.depth s.0, repeated_deeper e es, settled-deeper cut cut' es s.1 h, settled-deeper (suc e.depth) (suc (suc e.depth)) es s.1 (λ d l. leb-suc-suc (suc e.depth) d), settled-deeper (suc max_depth) (suc max_depth) es s.1 (λ d l. top d l))
     (push_in (leb cut e.depth) (is_repeated e es))
   where
     top : (d : ℕ) → d ≤ max_depth - 1 → leb (suc max_depth) (suc d) ≡ leb (suc max_depth) d
@@ -90,7 +80,7 @@ module _ (c : ℕ) (x : List ℕ) where
       (λ l. rw (eq-eqb c e.context (sym h), ne_eqb 1 (suc e.depth) (λ q. absurd (omega arith)), lt-ltb 0 (suc e.depth) (omega arith), lt-ltb 0 e.depth l))
       (λ l. rw (eq-eqb c e.context (sym h), eq-eqb 1 (suc e.depth) (omega arith), le-ltb 0 e.depth l))
   parent_deeper e (f ∷ fs) h k = by_order 0 e.depth
-      (λ l. rw (eqb_suc (suc f.depth) e.depth, ltb_suc f.depth e.depth, parent_deeper e fs h k.1, lt-ltb 0 e.depth l))
+      (λ l. rw (eqb-suc-suc (suc f.depth) e.depth, ltb_suc f.depth e.depth, parent_deeper e fs h k.1, lt-ltb 0 e.depth l))
       (λ l. rw (eq-eqb f.context e.context (k.0 ∙ sym h), ne_eqb (suc (suc f.depth)) (suc e.depth) (λ q. absurd (omega arith)), le-ltb (suc f.depth) (suc e.depth) (omega arith), parent_deeper e fs h k.1, le-ltb 0 e.depth l))
 
   entry-deeper : (e : Entry) (before : List Entry) → e.context ≡ c → AllIn c before → is_broken_entry (deeper e) (map deeper before ++ (head ∷ [])) ≡ is_broken_to (max_depth - 1) e before

@@ -11,7 +11,7 @@ use Rattle.reading.specs.Slices.{front}
 use Rattle.scope.specs.Limits.{max_name}
 use Rattle.scope.specs.Entries.{Entry}
 use Rattle.scope.specs.Lent.{entry_of, held}
-use Rattle.scope.specs.Rows.{entry_at, name_length}
+use Rattle.scope.specs.Rows.{name_length}
 use Rattle.scope_calls.specs.Written.{Appended}
 
 pub held_snoc : (k : ℕ) (ss ns : List (List ℕ)) (s n : List ℕ) → k < length ss → k < length ns → held (suc k) (set ss k s) (set ns k n) ≡ held k ss ns ++ (entry_of s n ∷ [])
@@ -22,13 +22,6 @@ held_snoc zero (a ∷ ss) (b ∷ ns) s n h j = refl
 held_snoc (suc k) [] ns s n h j = absurd (omega arith)
 held_snoc (suc k) (a ∷ ss) [] s n h j = absurd (omega arith)
 held_snoc (suc k) (a ∷ ss) (b ∷ ns) s n h j = ap (λ z. entry_of a b ∷ z) (held_snoc k ss ns s n (omega arith) (omega arith))
-
-pub held_suc : (i : ℕ) (ss ns : List (List ℕ)) → i < length ss → i < length ns → held (suc i) ss ns ≡ held i ss ns ++ (entry_at ss ns i ∷ [])
-unfolding held
-held_suc i [] ns h j = absurd (omega arith)
-held_suc i (s ∷ ss) [] h j = absurd (omega arith)
-held_suc zero (s ∷ ss) (n ∷ ns) h j = refl
-held_suc (suc i) (s ∷ ss) (n ∷ ns) h j = ap (λ z. entry_of s n ∷ z) (held_suc i ss ns (omega arith) (omega arith))
 
 pub take-held : (m k : ℕ) (ss ns : List (List ℕ)) → m ≤ k → take m (held k ss ns) ≡ held m ss ns
 unfolding held
@@ -45,12 +38,6 @@ drop-held (suc m) k n [] ns e h j = absurd (omega arith)
 drop-held (suc m) k n (s ∷ ss) [] e h j = absurd (omega arith)
 drop-held (suc m) k zero (s ∷ ss) (t ∷ ns) e h j = absurd (omega arith)
 drop-held (suc m) k (suc n) (s ∷ ss) (t ∷ ns) e h j = drop-held m k n ss ns (omega arith) (omega arith) (omega arith)
-
-pub copy_more : (f o : List ℕ) (i : ℕ) → i < length f → i < length o → set (take i f ++ drop i o) i (get_or f i 0) ≡ take (suc i) f ++ drop (suc i) o
-copy_more [] o i h k = absurd (omega arith)
-copy_more (a ∷ f) [] i h k = absurd (omega arith)
-copy_more (a ∷ f) (b ∷ o) zero h k = refl
-copy_more (a ∷ f) (b ∷ o) (suc i) h k = ap (λ z. a ∷ z) (copy_more f o i (omega arith) (omega arith))
 
 -- A row with a short name length written at `at`.
 pub set_short : (ss : List (List ℕ)) (at : ℕ) (r : List ℕ) → at < length ss → get_or r 3 0 ≤ max_name → (i : ℕ) → i < at + 1 → (i < at → name_length ss i ≤ max_name) → name_length (set ss at r) i ≤ max_name
