@@ -1,28 +1,24 @@
 -- Each way through a number, followed look by look with its exact reach.
-use mathlib.Core.Path.{◌≡◌, refl, sym, ap, ◌∙◌}
+use mathlib.Core.Path.{◌≡◌, refl, sym, ◌∙◌}
 use mathlib.Core.Bool.{Bool, true, false, ◌||◌}
-use mathlib.Core.List.{List, [], ◌++◌}
-use Prim.Native.Nat.{ℕ, ◌+◌, ◌-◌, ◌≤◌, ◌<◌}
+use mathlib.Core.List.{List, []}
+use Prim.Native.Nat.{ℕ, ◌+◌, ◌≤◌, ◌<◌}
 use native.Mathlib.Omega.{arith}
 use mir.Val.{bool_byte}
 use lib.Dec.{eqb}
-use lib.ListN.{length, drop, set, length-drop, length-append}
-use lib.Seq.{paste}
+use lib.ListN.{length}
 use Rattle.reading.specs.Look.{cell_at}
 use Rattle.reading.specs.Cells.{holds, is}
 use Rattle.reading.specs.Span.{part}
-use Rattle.reading.specs.Slices.{Wrote}
 use Rattle.reading.proofs.Test.{either}
 use Rattle.reading.proofs.Cell.{cell_there}
-use Rattle.reading.proofs.Passed.{Passed, part_none, part_more, part_length}
-use Rattle.reading.proofs.Front.{front-one, front-first}
+use Rattle.reading.proofs.Passed.{Passed, part_none}
 use Rattle.reading.proofs.Going.{begins, asks, takes, finds, sees_from, sees_gather}
 use Rattle.text.specs.Limits.{max_chars}
 use Rattle.text.specs.Classes.{is_digit}
-use Rattle.lexer.specs.Number.{or_zero, read_sign, read_exponent, read_number}
-use Rattle.lexer.specs.Numerals.{Signed, Exponented, Numbered, digits_of, places}
+use Rattle.lexer.specs.Number.{read_sign, read_exponent, read_number}
+use Rattle.lexer.specs.Numerals.{Signed, Exponented, Numbered, places}
 use Rattle.lexer.specs.Token.{fuel}
-use Rattle.lexer.specs.declared.number.Number.{Number}
 
 pub letter_there : (t : List ℕ) (i : ℕ) → is 0x65 (cell_at t i) || is 0x45 (cell_at t i) ≡ true → i < length t
 letter_there t i e = either (is 0x65 (cell_at t i)) e (cell_there (eqb 0x65) t i) (cell_there (eqb 0x45) t i)
@@ -119,30 +115,3 @@ module _ (t : List ℕ) (i : ℕ) (small : length t ≤ max_chars) {b : ℕ} (d 
           third = z;
           within = k.within;
         }
-
--- Writing: the zero that stands for no digits, and the parts one behind the other.
-or_zero_some : (t : List ℕ) (i e : ℕ) → i < e → e ≤ length t → or_zero (part t i e) ≡ part t i e
-or_zero_some t i e h l = rw (part_more t i e (omega arith) h)
-
-module _ (t o : List ℕ) (i e : ℕ) where
-  pub room_none : e ≤ i → length (or_zero (part t i e)) ≤ length o → 0 < length o
-  room_none h l = let z : e - i ≡ 0 = omega arith in rw z at l
-
-  pub room_some : i < e → e ≤ length t → length (or_zero (part t i e)) ≤ length o → e - i ≤ length o
-  room_some h g l = omega (arith, part_length t i e g, ap length (or_zero_some t i e h g))
-
-  pub before_none : e ≤ i → 0 < length o → Wrote o (or_zero (part t i e)) 1 (set o 0 0x30)
-  before_none h l = let z : e - i ≡ 0 = omega arith in record { size = rw z; left = rw z (front-one o 0x30 l) }
-
-  pub before_some : i < e → e ≤ length t → {r : ℕ} {o' : List ℕ} → r ≡ 0 + (e - i) → o' ≡ paste o 0 (drop i t) (e - i) → Wrote o (or_zero (part t i e)) r o'
-  before_some h l p q =
-      let y = or_zero_some t i e h l in
-      record { size = rw (y, part_length t i e l) (omega arith); left = rw y (q ∙ front-first o (drop i t) (e - i) (simp length-drop (omega arith))) }
-
--- The room that the parts take.
-pub digits-room : (t : List ℕ) (i : ℕ) (n : Number) → Numbered t i n → length (digits_of t i n) ≡ length (or_zero (part t i n.before)) + (n.after - n.from) + (n.end - n.exponent)
-digits-room t i n k =
-    let a = k.within in let b = k.third in let c = k.letter in
-    let p = part_length t n.from n.after (omega arith) in
-    let q = part_length t n.exponent n.end a in
-    omega (arith, length-append (or_zero (part t i n.before) ++ part t n.from n.after) (part t n.exponent n.end), length-append (or_zero (part t i n.before)) (part t n.from n.after))

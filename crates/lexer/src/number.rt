@@ -5,12 +5,14 @@ ghost use Rattle.reading.specs.Cells.{is};
 ghost use Rattle.reading.specs.Span.{part};
 ghost use Rattle.reading.specs.Slices.{Wrote};
 ghost use Rattle.text.specs.Limits.{max_chars};
+ghost use Rattle.text.specs.Output.{Adds};
 ghost use Rattle.lexer.specs.Number.{or_zero};
 ghost use Rattle.lexer.specs.Numerals.{Signed, Exponented, Numbered, digits_of, places};
 
 use crate::look;
 use text::chars::Char;
 use text::classes::Digit;
+use text::output::Output;
 
 // Whether the sign is a minus, and the place behind it.
 #[derive(Clone, Copy)]
@@ -125,16 +127,16 @@ pub fn read_number(rest: &[u32], i: usize) -> Number
     Number::with(before, before + 1, after, read_exponent(rest, after))
 }
 
-// Writes the digits before the point, or a zero, to the front of out.
-fn write_before(rest: &[u32], i: usize, end: usize, out: &mut [u32]) -> usize
-    requires { (i ≤ end) × (end ≤ length rest.now) × (length (or_zero (part rest.now i end)) ≤ length out.old) }
-    ensures { Wrote out.old (or_zero (part rest.now i end)) result out.new }
+// Writes the digits before the point, or a zero.
+fn write_before(digits: &[u32], out: &mut Output<'_>)
+    requires { out.old.len + length (or_zero digits.now) ≤ length out.old.cells.now }
+    ensures { Adds out.old (or_zero digits.now) out.new }
 {
-    if end <= i {
-        out[0] = Char::DIGIT_0;
-        return 1;
+    if digits.is_empty() {
+        out.push(Char::DIGIT_0);
+    } else {
+        out.append(digits);
     }
-    names::name::copy(rest, i, end, out, 0)
 }
 
 // Writes a number's digits before, after and of the exponent to the front of out; answers how many they are.
@@ -142,12 +144,9 @@ pub fn write_number(rest: &[u32], i: usize, n: Number, out: &mut [u32]) -> usize
     requires { (Numbered rest.now i n) × (length (digits_of rest.now i n) ≤ length out.old) }
     ensures { Wrote out.old (digits_of rest.now i n) result out.new }
 {
-    let before = n.before;
-    let from = n.from;
-    let after = n.after;
-    let exponent = n.exponent;
-    let end = n.end;
-    let a = write_before(rest, i, before, out);
-    let b = names::name::copy(rest, from, after, out, a);
-    names::name::copy(rest, exponent, end, out, b)
+    let mut written = Output { cells: out, len: 0 };
+    write_before(&rest[i..n.before], &mut written);
+    written.append(&rest[n.from..n.after]);
+    written.append(&rest[n.exponent..n.end]);
+    written.len
 }

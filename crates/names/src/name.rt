@@ -1,6 +1,5 @@
 // Parts put behind one another: as `Name::new` joins them, or by spaces.
-ghost use Rattle.std.specs.Prelude.{◌≡◌, ◌&&◌, ◌+◌, ◌-◌, ◌≤◌, length, drop};
-ghost use Rattle.std.proofs.Math.Seq.{paste};
+ghost use Rattle.std.specs.Prelude.{◌≡◌, ◌&&◌, ◌+◌, ◌≤◌, length};
 ghost use Rattle.text.specs.Output.{Adds};
 ghost use Rattle.names.specs.Name as spec;
 ghost use Rattle.names.specs.Spelling.{tied, laid};
@@ -8,16 +7,6 @@ ghost use Rattle.names.specs.Spelling.{tied, laid};
 use text::chars::Char;
 use text::classes::{Class, Symbol};
 use text::output::Output;
-
-// Copies the cells from at up to end to the place k of out; answers the place behind them.
-pub fn copy(cells: &[u32], at: usize, end: usize, out: &mut [u32], k: usize) -> usize
-    requires { (at ≤ end) × (end ≤ length cells.now) × (k + (end - at) ≤ length out.old) }
-    ensures { (result ≡ k + (end - at)) × (out.new ≡ paste out.old k (drop at cells.now) (end - at)) }
-{
-    let behind = k + (end - at);
-    out[k..behind].copy_from_slice(&cells[at..end]);
-    behind
-}
 
 fn is_symbol_text(part: &[u32]) -> bool
     ensures { result ≡ spec.is_symbol_text part.now }
