@@ -35,7 +35,7 @@ pub struct Broken {
 
 // The value of `count` digits from `from` on, 4 or 6.
 fn read_hex(rest: &[u32], from: usize, count: usize) -> Result<u32, Broken>
-    requires { (length rest.now ≤ max_chars) × (count ≤ 6) × (from ≤ length rest.now) }
+    requires { (count ≤ 6) × (from ≤ length rest.now) }
     ensures { Hexed rest.now from count result }
 {
     let mut value = 0;
@@ -87,7 +87,7 @@ fn paired(h: u32, l: u32) -> u32
 
 // The second half of a pair, whose first half is h and ended at i.
 fn read_second_half(rest: &[u32], h: u32, i: usize) -> Result<Piece, Broken>
-    requires { (length rest.now ≤ max_chars) × (i ≤ length rest.now) × (0xD800 ≤ h) × (h ≤ 0xDBFF) }
+    requires { (i ≤ length rest.now) × (0xD800 ≤ h) × (h ≤ 0xDBFF) }
     ensures { Pieced rest.now i (λ _. spec.read_second_half h i) i result }
 {
     let Some(letter) = rest.get(i + 1) else {
@@ -114,7 +114,7 @@ fn read_second_half(rest: &[u32], h: u32, i: usize) -> Result<Piece, Broken>
 
 // An escape with n digits from i on.
 fn read_unicode(rest: &[u32], i: usize, n: usize) -> Result<Piece, Broken>
-    requires { (length rest.now ≤ max_chars) × (i ≤ length rest.now) × (0 < n) × (n ≤ 6) }
+    requires { (i ≤ length rest.now) × (0 < n) × (n ≤ 6) }
     ensures { Pieced rest.now i (λ _. spec.read_unicode n i) i result }
 {
     let v = read_hex(rest, i, n)?;
@@ -157,7 +157,7 @@ fn is_unicode_letter(c: u32) -> bool
 
 // An escape whose backslash stands at i and whose letter is c.
 fn read_escape(rest: &[u32], c: u32, i: usize) -> Result<Piece, Broken>
-    requires { (length rest.now ≤ max_chars) × (i + 2 ≤ length rest.now) }
+    requires { i + 2 ≤ length rest.now }
     ensures { Pieced rest.now (i + 2) (λ _. spec.read_escape c i) i result }
 {
     if let Some(p) = plain_escape(c) {
@@ -171,7 +171,7 @@ fn read_escape(rest: &[u32], c: u32, i: usize) -> Result<Piece, Broken>
 
 // The piece of a string's inside at i.
 fn read_piece(rest: &[u32], i: usize) -> Result<Piece, Broken>
-    requires { (length rest.now ≤ max_chars) × (i ≤ length rest.now) }
+    requires { i ≤ length rest.now }
     ensures { At rest.now i result }
 {
     let Some(c) = rest.get(i) else {

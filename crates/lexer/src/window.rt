@@ -1,7 +1,6 @@
 // The window: twelve characters from a place on, whitespace and the text's end shown as a space.
 ghost use Rattle.std.specs.Prelude.{◌≡◌, ◌≤◌, length};
 ghost use Rattle.reading.specs.Look.{cell_at};
-ghost use Rattle.text.specs.Limits.{max_chars};
 ghost use Rattle.text.specs.Ranges.{to, within};
 ghost use Rattle.lexer.specs.Window.{shown};
 ghost use Rattle.lexer.specs.Shown.{window_of};
@@ -31,7 +30,7 @@ pub fn shown_at(rest: &[u32], i: usize) -> u32
 
 // The window that begins at i, shown character by character.
 fn by_characters(rest: &[u32], i: usize) -> [u32; 12]
-    requires { (length rest.now ≤ max_chars) × (i ≤ length rest.now) }
+    requires { i ≤ length rest.now }
     ensures { result ≡ window_of 12 rest.now i }
 {
     array::from_fn(|j| shown_at(rest, i + j))
@@ -40,7 +39,7 @@ fn by_characters(rest: &[u32], i: usize) -> [u32; 12]
 // The window that begins at i: most are a copy of the text, made and tested in few steps.
 // Ruled out, among others: a tab shown as itself; the window cut off where the text ends.
 pub fn window(rest: &[u32], i: usize) -> [u32; 12]
-    requires { (length rest.now ≤ max_chars) × (i ≤ length rest.now) }
+    requires { i ≤ length rest.now }
     ensures { result ≡ window_of 12 rest.now i }
 {
     match rest[i..].first_chunk::<12>() {

@@ -106,7 +106,7 @@ fn string_at(rest: &[u32], i: usize, q: usize, flags: Flags, out: &mut [u32]) ->
 
 // Whether the window at i shows nothing but spaces, as it does at the text's end.
 fn is_blank(rest: &[u32], i: usize) -> bool
-    requires { (length rest.now ≤ max_chars) × (i ≤ length rest.now) }
+    requires { i ≤ length rest.now }
     ensures { result ≡ same (window_of 12 rest.now i) (codes "            ") }
 {
     let w = window::window(rest, i);
