@@ -17,12 +17,10 @@ use Rattle.scope.specs.Lent.{Lent, is_broken, scope_of}
 use Rattle.scope.specs.Answers.{lent}
 use Rattle.scope.specs.declared.scope.Scope.{Scope}
 use Rattle.lexer.specs.Read.{Read, cells_of}
-use Rattle.lexer.specs.Answered.{read_of, cell_count, Says}
+use Rattle.lexer.specs.Answered.{Told, plain, boolean, numeric, letters, broken, told, read_of, cell_count, Says}
 use Rattle.lexer.specs.Lexer as spec
 use Rattle.lexer.specs.Lexer.{State, step, next_token}
 use Rattle.lexer.specs.Token.{read_token}
-use Rattle.lexer.specs.declared.token.Read.{Read as Answer}
-use Rattle.lexer.specs.declared.token.Read.TheVariants.{Plain, Boolean, Numeric, Chars, Refused}
 use Rattle.lexer.proofs.TokenFacts.{sound}
 use Rattle.lexer.proofs.AnsweredLaws.{three}
 use Rattle.tokens.specs.CalledBy.{state_of, CalledBy}
@@ -63,17 +61,17 @@ whole_parts a b c o e =
     (omega arith, omega arith, omega arith)
 
 -- What is told of the code's answer is what is told of what that says was read.
-abbrev pub Same : Answer → Read → ℕ → Type 0
+abbrev pub Same : Told → Read → ℕ → Type 0
 Same a x p = (number_from a ≡ refusal_number x) × (answer_from a p ≡ read_answer x p)
 
-of_case : (a : Answer) (o : List ℕ) → cell_count a ≡ length (cells_of (read_of a o)) → (p : ℕ) → Same a (read_of a o) p
-of_case (Plain k) o e p = (refl, refl)
-of_case (Boolean b) o e p = (refl, refl)
-of_case (Numeric before after minus exponent) o e p = let w = whole_parts before after exponent o e in (refl, rw (← e, w.0, w.1, w.2))
-of_case (Chars k n) o e p = (refl, rw (← e))
-of_case (Refused n c) o e p = (refl, refl)
+of_case : (a : Told) (o : List ℕ) → cell_count a ≡ length (cells_of (read_of a o)) → (p : ℕ) → Same a (read_of a o) p
+of_case (plain k) o e p = (refl, refl)
+of_case (boolean b) o e p = (refl, refl)
+of_case (numeric before after minus exponent) o e p = let w = whole_parts before after exponent o e in (refl, rw (← e, w.0, w.1, w.2))
+of_case (letters k n) o e p = (refl, rw (← e))
+of_case (broken n c) o e p = (refl, refl)
 
-pub same_answer : {a : Answer} {o : List ℕ} {x : Read} → Says a o x → (p : ℕ) → Same a x p
+pub same_answer : {a : Told} {o : List ℕ} {x : Read} → Says a o x → (p : ℕ) → Same a x p
 same_answer {a} {o} {x} s p = subst (λ y. Same a y p) s.means (of_case a o (s.size ∙ ap (λ y. length (cells_of y)) (sym s.means)) p)
 
 -- The call on what the numbers stand for, with the answer that is told of it.
@@ -88,10 +86,10 @@ module _ (lexer scope : List ℕ) (slots names : List (List ℕ)) (text output s
         subst (λ x. CalledBy (next_token (lent x slots names) (state_at lexer) text output scratch) c output' scratch') read
         (subst (λ x. CalledBy (next_token (lent s slots names) x text output scratch) c output' scratch') state called)
 
-    pub value_short : cell_count c.read ≤ max_chars
+    pub value_short : cell_count (told c.read) ≤ max_chars
     value_short = omega (arith, called_at.read.size, next_short (lent_of scope slots names) (state_at lexer) text output scratch)
 
-    pub token_taken : is_answer ns && is_lexer lexer ≡ true → {lexer' : List ℕ} → lexer' ≡ lexer_numbers (state_of c.next) → {n : ℕ} {ns' : List ℕ} → n ≡ number_from c.read → ns' ≡ answer_from c.read c.place
+    pub token_taken : is_answer ns && is_lexer lexer ≡ true → {lexer' : List ℕ} → lexer' ≡ lexer_numbers (state_of c.next) → {n : ℕ} {ns' : List ℕ} → n ≡ number_from (told c.read) → ns' ≡ answer_from (told c.read) c.place
         → feel_next_token lexer text scope slots names output scratch ns ≡ record { number = n; lexer = lexer'; output = output'; scratch = scratch'; answer = ns' }
     token_taken h {lexer'} e k m =
         let w = called_at in

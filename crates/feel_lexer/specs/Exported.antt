@@ -14,8 +14,7 @@ use Rattle.scope.specs.Calls as calls
 use Rattle.scope.specs.Answers.{Answer as Changed}
 use Rattle.scope.specs.declared.scope.Scope.{Scope}
 use Rattle.scope.specs.Lent.{is_broken, scope_of, on_scope}
-use Rattle.lexer.specs.Answered.{read_of, cell_count}
-use Rattle.lexer.specs.declared.token.Read.{Read as Answered}
+use Rattle.lexer.specs.Answered.{Told, read_of, cell_count}
 use Rattle.lexer.specs.Read.{Read, token, refused, is_refused, number_of, cells_of}
 use Rattle.lexer.specs.Lexer.{Called as TokenCalled, next_token}
 use Rattle.tokens.specs.CalledBy.{state_of}
@@ -147,10 +146,10 @@ Ready ns a (Ok l) a' = (is_answer a && is_lexer ns ≡ true) × (state_of l ≡ 
 Ready ns a (Err e) a' = (is_answer a && is_lexer ns ≡ false) × (e ≡ ShortSlice) × (a' ≡ told (placed 0 0) a)
 
 -- The same of what the code answers, whatever the output holds.
-abbrev pub number_from : Answered → ℕ
+abbrev pub number_from : Told → ℕ
 number_from r = refusal_number (read_of r [])
 
-abbrev pub answer_from : Answered → ℕ → List ℕ
+abbrev pub answer_from : Told → ℕ → List ℕ
 answer_from r place =
     let x = read_of r [] in
     let three = lengths_from r in

@@ -1,13 +1,13 @@
 // The token call.
 ghost use Rattle.std.specs.Prelude.{◌≡◌, ◌≤◌, length};
 ghost use Rattle.text.specs.Limits.{max_chars};
-ghost use Rattle.lexer.specs.Answered.{cell_count};
+ghost use Rattle.lexer.specs.Answered.{told, cell_count};
 ghost use Rattle.feel_lexer.specs.Numbers.{answer_size};
 ghost use Rattle.feel_lexer.specs.Exported as spec;
 
 use crate::answer::Answer;
 use crate::{answer, state};
-use lexer::token::Read;
+use lexer::token::{Read, Token};
 use lexer::token_type::TokenType;
 use runs::call;
 use scope::lent::Lent;
@@ -23,35 +23,36 @@ fn ready(lexer: &[usize], answer: &mut [usize]) -> Result<Lexer, Refusal>
     state::lexer_of(lexer).ok_or(Refusal::ShortSlice)
 }
 
-// Writes the answer of what was read at a place: a token, or the carry of a refusal, whose number is given back.
-fn put_read(read: Read, place: usize, answer: &mut [usize]) -> u32
-    requires { (cell_count read ≤ max_chars) × (length answer.old ≡ answer_size) }
-    ensures { (result ≡ spec.number_from read) × (answer.new ≡ spec.answer_from read place) }
+// Writes the answer of what was read at a place: a token, or the carry of a refusal, which is given back.
+#[tactic(auto, unfolding(crate::specs::Exported::number))]
+fn put_read(read: Read, place: usize, answer: &mut [usize]) -> Result<(), Refusal>
+    requires { (cell_count (told read) ≤ max_chars) × (length answer.old ≡ answer_size) }
+    ensures { (spec.number result ≡ spec.number_from (told read)) × (answer.new ≡ spec.answer_from (told read) place) }
 {
     let at = Answer {
         place,
         ..Answer::EMPTY
     };
-    let (refusal, told) = match read {
-        Read::Plain(k) => (
-            0,
+    let (outcome, told) = match read {
+        Ok(Token::Plain(kind)) => (
+            Ok(()),
             Answer {
-                token_type: k as usize,
+                token_type: u32::from(kind) as usize,
                 ..at
             },
         ),
-        Read::Boolean(b) => (
-            0,
+        Ok(Token::Boolean(b)) => (
+            Ok(()),
             Answer {
-                token_type: TokenType::BOOLEAN as usize,
+                token_type: u32::from(TokenType::Boolean) as usize,
                 extra: usize::from(b),
                 ..at
             },
         ),
-        Read::Numeric(before, after, minus, exponent) => (
-            0,
+        Ok(Token::Numeric(before, after, minus, exponent)) => (
+            Ok(()),
             Answer {
-                token_type: TokenType::NUMERIC as usize,
+                token_type: u32::from(TokenType::Numeric) as usize,
                 length: before + after + exponent,
                 before,
                 after,
@@ -60,24 +61,24 @@ fn put_read(read: Read, place: usize, answer: &mut [usize]) -> u32
                 ..at
             },
         ),
-        Read::Chars(k, n) => (
-            0,
+        Ok(Token::Chars(kind, n)) => (
+            Ok(()),
             Answer {
-                token_type: k as usize,
+                token_type: u32::from(kind) as usize,
                 length: n,
                 ..at
             },
         ),
-        Read::Refused(n, carry) => (
-            n,
+        Err(refused) => (
+            Err(refused.refusal),
             Answer {
-                extra: carry as usize,
+                extra: refused.carry as usize,
                 ..at
             },
         ),
     };
     told.write(answer);
-    refusal
+    outcome
 }
 
 // The next token of a text: its value fills the output's front, and the lexer's numbers are those of the state after it.
@@ -105,7 +106,7 @@ pub extern "C" fn feel_next_token(
             };
             let c = tokens::call::next_token(l, text, lent, out, scratch);
             state::put_lexer(lexer, c.next);
-            put_read(c.read, c.place, answer)
+            answer::number(put_read(c.read, c.place, answer))
         }
         Err(refusal) => {
             call::clear(scratch);

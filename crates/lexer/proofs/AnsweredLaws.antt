@@ -10,10 +10,8 @@ use borrow.Author.Tests.{eqb-true}
 use Rattle.reading.specs.Slices.{front}
 use Rattle.lexer.specs.Read.{Read, token, refused, nothing, truth, number, chars, cells_of, has_form}
 use Rattle.lexer.specs.TokenType
-use Rattle.lexer.specs.Answered.{read_of, cell_count, Says}
+use Rattle.lexer.specs.Answered.{Told, numeric, read_of, cell_count, Says}
 use Rattle.lexer.specs.Taken.{coded}
-use Rattle.lexer.specs.declared.token.Read.{Read as Answer}
-use Rattle.lexer.specs.declared.token.Read.TheVariants.{Numeric}
 
 -- A Boolean and a number stand with their own types.
 abbrev pub Typed : Read → Type 0
@@ -58,7 +56,7 @@ module _ (before after exponent rest : List ℕ) where
   third_part : take (length exponent) (drop (length before + length after) laid) ≡ exponent
   third_part = ap (take (length exponent)) (drop-append-add before _ (length after) ∙ drop-append_seam after _) ∙ take-append_seam exponent rest
 
-  pub number_back : (minus : Bool) → read_of (Numeric (length before) (length after) minus (length exponent)) (before ++ after ++ exponent ++ rest) ≡ token TokenType.Numeric (number before after minus exponent)
+  pub number_back : (minus : Bool) → read_of (numeric (length before) (length after) minus (length exponent)) (before ++ after ++ exponent ++ rest) ≡ token TokenType.Numeric (number before after minus exponent)
   number_back minus = rw (spread, first_part, second_part, third_part)
 
 -- The answer of a reading, its value written to the front of the output, says what was read.
@@ -70,5 +68,5 @@ meant (token k (number before after minus exponent)) h o =
 meant (token k (chars cs)) h o = ap (λ v. token k (chars v)) (take-append_seam cs _)
 meant (refused n c) h o = refl
 
-pub says_coded : (read : Read) → Typed read → {a : Answer} → a ≡ coded read → (o : List ℕ) {o' : List ℕ} → o' ≡ front (cells_of read) o → Says a o' read
+pub says_coded : (read : Read) → Typed read → {a : Told} → a ≡ coded read → (o : List ℕ) {o' : List ℕ} → o' ≡ front (cells_of read) o → Says a o' read
 says_coded read h e o g = record { means = rw (e, g) (meant read h o); size = ap cell_count e ∙ cell-count read }

@@ -1,16 +1,26 @@
 // What a token call reads.
 use crate::flags::Flags;
+use crate::token_type::TokenType;
+use text::refusal::Refusal;
 
 // A token without a value, by its type; a Boolean; a number's digits before, after, whether its exponent's sign is a minus, and the exponent's digits;
-// a string's or name's type and characters; a refusal's number and carry. The cells of a value stand at the front of the output.
+// a string's or name's type and characters. The cells of a value stand at the front of the output.
 #[derive(Clone, Copy)]
-pub enum Read {
-    Plain(u32),
+pub enum Token {
+    Plain(TokenType),
     Boolean(bool),
     Numeric(usize, usize, bool, usize),
-    Chars(u32, usize),
-    Refused(u32, u32),
+    Chars(TokenType, usize),
 }
+
+// Why no token was read, and what the refusal carries.
+#[derive(Clone, Copy)]
+pub struct Refused {
+    pub refusal: Refusal,
+    pub carry: u32,
+}
+
+pub type Read = Result<Token, Refused>;
 
 // What was read, how many cells were used up, the flags after, and the reach.
 #[derive(Clone, Copy)]

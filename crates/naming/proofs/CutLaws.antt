@@ -24,7 +24,12 @@ use Rattle.lexer.specs.Naming.{texts, name_of, end_of, starts_with, with_part, b
 use Rattle.lexer.specs.Flags.{TypeName, clear}
 use Rattle.std.specs.declared.ops.Range.{Range}
 use Rattle.lexer.specs.declared.flags.Flags.{Flags}
-use Rattle.lexer.specs.declared.token.Read.TheVariants.{Chars}
+use Rattle.std.specs.Prelude.{Ok}
+use Rattle.lexer.specs.TypeNumber.{type_number}
+use Rattle.lexer.specs.Answered.{letters}
+use Rattle.lexer.specs.declared.token.Token.TheVariants.{Chars}
+use Rattle.lexer.specs.declared.token_type.TokenType.{TokenType}
+use Rattle.lexer.specs.declared.token_type.TokenType.TheVariants.{Name, NameDateTime, BuiltInTypeName}
 use Rattle.lexer.specs.Places.{next_of, between, Placed, prefix, spelling, leads}
 use Rattle.lexer.specs.Places.{end_of as place_of}
 use Rattle.lexer.specs.FlagsOf.{flags_of}
@@ -161,10 +166,10 @@ prefix_many t from n m c l = sym (ap length (prefix-take t m n from l)) ∙ leng
 pub value_of : (ps : List Part) → spelling true ps ≡ new_name (texts ps)
 value_of ps = spelled-joined true (map trim (texts ps))
 
-pub gives_name : (t : List ℕ) (from m : ℕ) {o o' : List ℕ} {k : ℕ} → Wrote o (spelling true (prefix t m from)) k o' → (kind end : ℕ) (f : Flags) (reach : ℕ)
-    → Gives (outcome (token kind (name_of (prefix t m from))) end (flags_of f)) reach o (record { read = Chars kind k; used = end; flags = f; reach = reach }) o'
+pub gives_name : (t : List ℕ) (from m : ℕ) {o o' : List ℕ} {k : ℕ} → Wrote o (spelling true (prefix t m from)) k o' → (kind : TokenType) (end : ℕ) (f : Flags) (reach : ℕ)
+    → Gives (outcome (token (type_number kind) (name_of (prefix t m from))) end (flags_of f)) reach o (record { read = Ok (Chars kind k); used = end; flags = f; reach = reach }) o'
 gives_name t from m {o} w kind end f reach = let v = value_of (prefix t m from) in record {
-  read = ap (Chars kind) (w.size ∙ ap length v);
+  read = ap (letters (type_number kind)) (w.size ∙ ap length v);
   used = refl;
   flags = refl;
   looked = refl;
@@ -183,23 +188,23 @@ written_size t from n w = w.size ∙ ap length (value_of (prefix t n from)) ∙ 
 
 -- All parts are a type name, a temporal name or a plain one.
 module _ (t : List ℕ) (from n end : ℕ) {o o' : List ℕ} {k : ℕ} (w : Wrote o (spelling true (prefix t n from)) k o') (f : Flags) (is_name : List ℕ → Bool) {b : Bool} (p : b ≡ (flags_of f).type_name && member (take k o') type_names) where
-  abbrev All : ℕ → Flags → Type 0
-  All kind g = Gives (all_parts (flags_of f) is_name from (prefix t n from) (cell_at t end) end) (end + 1) o (record { read = Chars kind k; used = end; flags = g; reach = end + 1 }) o'
+  abbrev All : TokenType → Flags → Type 0
+  All kind g = Gives (all_parts (flags_of f) is_name from (prefix t n from) (cell_at t end) end) (end + 1) o (record { read = Ok (Chars kind k); used = end; flags = g; reach = end + 1 }) o'
 
   test : b ≡ (flags_of f).type_name && member (new_name (texts (prefix t n from))) type_names
   test = p ∙ ap (λ x. (flags_of f).type_name && member x type_names) (written t from n w)
 
-  pub all_type : b ≡ true → {g : Flags} → flags_of g ≡ clear TypeName (flags_of f) → All 312 g
+  pub all_type : b ≡ true → {g : Flags} → flags_of g ≡ clear TypeName (flags_of f) → All BuiltInTypeName g
   all_type e {g} h =
-      let x = gives_name t from n w 312 end g (end + 1) in
+      let x = gives_name t from n w BuiltInTypeName end g (end + 1) in
       rw (sym test ∙ e) (record { read = x.read; used = refl; flags = h; looked = refl; left = x.left })
 
   module _ (e : b ≡ false) {a : Bool} (q : a ≡ member (take k o') temporal_names && is 0x28 (cell_at t end)) where
     test_temporal : a ≡ member (new_name (texts (prefix t n from))) temporal_names && is 0x28 (cell_at t end)
     test_temporal = q ∙ ap (λ x. member x temporal_names && is 0x28 (cell_at t end)) (written t from n w)
 
-    pub all_temporal : a ≡ true → All 311 f
-    all_temporal d = rw (sym test ∙ e, sym test_temporal ∙ d) (gives_name t from n w 311 end f (end + 1))
+    pub all_temporal : a ≡ true → All NameDateTime f
+    all_temporal d = rw (sym test ∙ e, sym test_temporal ∙ d) (gives_name t from n w NameDateTime end f (end + 1))
 
-    pub all_plain : a ≡ false → All 310 f
-    all_plain d = rw (sym test ∙ e, sym test_temporal ∙ d) (gives_name t from n w 310 end f (end + 1))
+    pub all_plain : a ≡ false → All Name f
+    all_plain d = rw (sym test ∙ e, sym test_temporal ∙ d) (gives_name t from n w Name end f (end + 1))

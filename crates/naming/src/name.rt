@@ -22,7 +22,7 @@ use crate::prefix;
 use crate::prefix::Found;
 use lexer::flags::{Flag, Flags};
 use lexer::parts;
-use lexer::token::{Outcome, Read};
+use lexer::token::{Outcome, Refused, Token};
 use lexer::token_type::TokenType;
 use search::known::Known;
 use text::chars::Char;
@@ -87,7 +87,7 @@ fn named(name: Name, m: usize, end: usize, flags: Flags, out: &mut [u32]) -> Out
 {
     let k = parts::write_parts(name.rest, name.from, m, true, out);
     Outcome {
-        read: Read::Chars(TokenType::NAME, k),
+        read: Ok(Token::Chars(TokenType::Name, k)),
         used: end,
         flags,
         reach: name.end + 1,
@@ -122,21 +122,21 @@ fn all_parts(name: Name, flags: Flags, out: &mut [u32]) -> Outcome
 {
     let k = parts::write_parts(name.rest, name.from, name.parts, true, out);
     let joined = Outcome {
-        read: Read::Chars(TokenType::NAME, k),
+        read: Ok(Token::Chars(TokenType::Name, k)),
         used: name.end,
         flags,
         reach: name.end + 1,
     };
     if is_type(&out[..k], flags) {
         return Outcome {
-            read: Read::Chars(TokenType::BUILT_IN_TYPE_NAME, k),
+            read: Ok(Token::Chars(TokenType::BuiltInTypeName, k)),
             flags: flags.clear(Flag::TypeName),
             ..joined
         };
     }
     if is_temporal(&out[..k], name.rest, name.end) {
         return Outcome {
-            read: Read::Chars(TokenType::NAME_DATE_TIME, k),
+            read: Ok(Token::Chars(TokenType::NameDateTime, k)),
             ..joined
         };
     }
@@ -196,7 +196,10 @@ fn by_in(name: Name, flags: Flags, known: &Known, out: &mut [u32], scratch: &mut
     match before_in(name) {
         None => by_colon(name, flags, known, out, scratch),
         Some(0) => Outcome {
-            read: Read::Refused(Refusal::STARTS_WITH_IN, 0),
+            read: Err(Refused {
+                refusal: Refusal::StartsWithIn,
+                carry: 0,
+            }),
             used: name.from,
             flags,
             reach: name.end + 1,

@@ -7,7 +7,7 @@ use crate::lent::FILL;
 use crate::told::Refused;
 use crate::{filled, lent, told};
 use lexer::flags::Flags;
-use lexer::token::Read;
+use lexer::token::{Read, Token};
 use lexer::token_type::TokenType;
 use scope::lent::Lent;
 use std::io;
@@ -25,22 +25,30 @@ fn state(position: usize, pending: bool) -> Lexer {
     }
 }
 
-fn token(rt: &impl Print, k: u32, place: usize) -> io::Result<()> {
-    print!(rt; "token {k} at {place}")
+fn token(rt: &impl Print, kind: TokenType, place: usize) -> io::Result<()> {
+    print!(rt; "token {} at {place}", u32::from(kind))
 }
 
 // What was read, and its place. 01: 3, 5 and 6 carry something.
 fn read(rt: &impl Print, r: Read, place: usize) -> io::Result<()> {
     match r {
-        Read::Plain(k) => token(rt, k, place),
-        Read::Boolean(_) => token(rt, TokenType::BOOLEAN, place),
-        Read::Numeric(_, _, _, _) => token(rt, TokenType::NUMERIC, place),
-        Read::Chars(k, n) => print!(rt; "token {k} at {place}, value cells {n}"),
-        Read::Refused(
-            n @ (Refusal::NO_HEX_DIGIT | Refusal::NO_SCALAR_VALUE | Refusal::NO_SECOND_HALF),
-            carry,
-        ) => print!(rt; "{} at {place}, carry {carry:X}", Refused(n)),
-        Read::Refused(n, _) => print!(rt; "{} at {place}", Refused(n)),
+        Ok(Token::Plain(kind)) => token(rt, kind, place),
+        Ok(Token::Boolean(_)) => token(rt, TokenType::Boolean, place),
+        Ok(Token::Numeric(..)) => token(rt, TokenType::Numeric, place),
+        Ok(Token::Chars(kind, n)) => {
+            token(rt, kind, place)?;
+            print!(rt; ", value cells {n}")
+        }
+        Err(broken) => {
+            let refused = Refused(u32::from(broken.refusal));
+            print!(rt; "{refused} at {place}")?;
+            match broken.refusal {
+                Refusal::NoHexDigit | Refusal::NoScalarValue | Refusal::NoSecondHalf => {
+                    print!(rt; ", carry {:X}", broken.carry)
+                }
+                _ => Ok(()),
+            }
+        }
     }
 }
 
@@ -63,7 +71,7 @@ fn answer(rt: &impl Print, c: Called, out: &[u32], zero: bool) -> io::Result<()>
         u32::from(next.flags)
     )?;
     let value_cells = match r {
-        Read::Chars(_, n) => n,
+        Ok(Token::Chars(_, n)) => n,
         _ => 0,
     };
     let rest = told::kept(filled::is_filled(out, value_cells, FILL));

@@ -18,13 +18,12 @@ use Rattle.lexer.specs.Flags as spec
 use Rattle.lexer.specs.Read.{outcome, cells_of, is_last}
 use Rattle.lexer.specs.FlagsOf.{flags_of}
 use Rattle.lexer.specs.Lexer.{start_types}
-use Rattle.lexer.specs.Answered.{cell_count}
+use Rattle.lexer.specs.Answered.{plain, told, cell_count}
 use Rattle.lexer.specs.Taken.{coded, Taken}
 use Rattle.lexer.proofs.AnsweredLaws.{cell-count}
 use Rattle.lexer.specs.Token.{read_token}
 use Rattle.lexer.specs.TokenType
 use Rattle.lexer.specs.declared.flags.Flags.{Flags}
-use Rattle.lexer.specs.declared.token.Read.TheVariants.{Plain}
 use Rattle.lexer.specs.declared.token.Outcome.{Outcome}
 use Rattle.lexer.proofs.TokenFacts.{Sound, sound}
 use Rattle.runs.specs.declared.run.Progress.{Progress}
@@ -35,7 +34,7 @@ use Rattle.runs.specs.Ran.{Next, Stands}
 use Rattle.runs.proofs.CodedLaws.{row_with, row_is, ends_is}
 use Rattle.runs.proofs.BehindLaws.{behind-one, behind_more}
 
-module _ {k n : ℕ} {f : Flags} {r : List ℕ} {rows rows' : List (List ℕ)} {ended : Bool} (is_start : n ≡ cond (is_one_of start_types k) k TokenType.YyError) (is_row : r ≡ row_with 0 f 0 0 (Plain n)) where
+module _ {k n : ℕ} {f : Flags} {r : List ℕ} {rows rows' : List (List ℕ)} {ended : Bool} (is_start : n ≡ cond (is_one_of start_types k) k TokenType.YyError) (is_row : r ≡ row_with 0 f 0 0 (plain n)) where
   pub stands_start : 0 < length rows → rows' ≡ set rows 0 r → ended ≡ is_last (eqb (get_or r refused_at 0) 1) (get_or r number_at 0) → (tok : Reader) (t store : List ℕ)
       → Stands tok k (flags_of f) t rows store (record { position = 0; flags = f; counts = record { items = 1; cells = 0 }; ended = ended }) rows' store
   stands_start room w e tok t store =
@@ -52,7 +51,7 @@ module _ {k n : ℕ} {f : Flags} {r : List ℕ} {rows rows' : List (List ℕ)} {
 pub record Found (n p : ℕ) (r : Outcome) : Type 0 where
   pub used : p + r.used ≤ n
   pub far : p + r.reach ≤ n + 12
-  pub cells : cell_count r.read ≤ r.used
+  pub cells : cell_count (told r.read) ≤ r.used
 
 -- What the token reader answers for the text from p on.
 module _ (is_name : List ℕ → Bool) (t : List ℕ) (p : ℕ) (f : spec.Flags) {o : List ℕ} {r : Outcome} {o' : List ℕ} (w : Taken (take (length t - p) (drop p t)) is_name f o r o') (limit : length t ≤ max_chars) (within : p ≤ length t) where
@@ -70,7 +69,7 @@ module _ (is_name : List ℕ → Bool) (t : List ℕ) (p : ℕ) (f : spec.Flags)
   found =
       let s = taken_sound in
       let l = length-drop p t in
-      let e : cell_count r.read ≡ length (cells_of w.read) = ap cell_count w.shown ∙ cell-count w.read in
+      let e : cell_count (told r.read) ≡ length (cells_of w.read) = ap cell_count w.shown ∙ cell-count w.read in
       record { used = omega (arith, s.in_text); far = omega (arith, s.near); cells = omega (arith, s.short) }
 
 -- A slice whose rest was lent and came back.
@@ -84,8 +83,8 @@ lent_back s v u e =
 module _ (is_name : List ℕ → Bool) (t : List ℕ) (at : Progress) (store : List ℕ) {r : Outcome} {o' : List ℕ}
     (w : Taken (take (length t - at.position) (drop at.position t)) is_name (flags_of at.flags) (take (length store - at.counts.cells) (drop at.counts.cells store)) r o')
     (limit : length t ≤ max_chars) (within : at.position ≤ length t) where
-  pub next_is : {row : List ℕ} {rows rows' : List (List ℕ)} {ended : Bool} {n : ℕ} → row ≡ row_with (at.position + r.used) r.flags (at.position + r.reach) at.counts.cells r.read
-      → rows' ≡ set rows at.counts.items row → ended ≡ is_last (eqb (get_or row refused_at 0) 1) (get_or row number_at 0) → n ≡ cell_count r.read
+  pub next_is : {row : List ℕ} {rows rows' : List (List ℕ)} {ended : Bool} {n : ℕ} → row ≡ row_with (at.position + r.used) r.flags (at.position + r.reach) at.counts.cells (told r.read)
+      → rows' ≡ set rows at.counts.items row → ended ≡ is_last (eqb (get_or row refused_at 0) 1) (get_or row number_at 0) → n ≡ cell_count (told r.read)
       → Next (read_token is_name) t at rows store
       (record { position = at.position + r.used; flags = r.flags; counts = record { items = at.counts.items + 1; cells = at.counts.cells + n }; ended = ended }) rows'
       (put_mid at.counts.cells (length store - at.counts.cells) store o')

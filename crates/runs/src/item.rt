@@ -1,14 +1,15 @@
 // An item of a run, and its row of eleven numbers.
 ghost use Rattle.std.specs.Prelude.{◌≡◌, ◌≤◌, eqb, get_or};
 ghost use Rattle.text.specs.Limits.{max_chars};
-ghost use Rattle.lexer.specs.Answered.{cell_count};
+ghost use Rattle.lexer.specs.Answered.{told, cell_count};
 ghost use Rattle.lexer.specs.Read.{is_last};
 ghost use Rattle.runs.specs.Record.{refused_at, number_at};
-ghost use Rattle.runs.specs.Coded.{kind_from, value_from, Small, row_from};
+ghost use Rattle.runs.specs.Coded.{kind_from, kind_numbers, value_from, Small, row_from};
 
 use lexer::flags::Flags;
-use lexer::token::Read;
+use lexer::token::{Read, Token};
 use lexer::token_type::TokenType;
+use text::refusal::Refusal;
 
 // What was read, and the position, flags and reach behind it.
 #[derive(Clone, Copy)]
@@ -51,13 +52,14 @@ impl Item {
 
     // The row of the item, whose value starts at `start`.
     // Ruled out, among others: a number cut off at 32 bits; a row that keeps what an earlier run wrote where this item has nothing.
+    #[inline(always)]
     pub fn row(self, start: usize) -> Row
         requires { Small self × (start ≤ max_chars) }
         ensures { result ≡ row_from start self }
     {
         let (refused, number) = match kind(self.read) {
-            Ok(token) => (false, token),
-            Err(refusal) => (true, refusal),
+            Ok(kind) => (false, u32::from(kind)),
+            Err(refusal) => (true, u32::from(refusal)),
         };
         let value = Value::of(self.read);
         [
@@ -76,16 +78,16 @@ impl Item {
     }
 }
 
-// The type of a token, or the number of a refusal.
+// The type of a token, or why it is refused.
 // Ruled out, among others: a refusal taken for a token; a Boolean told as a number.
-pub fn kind(read: Read) -> Result<u32, u32>
-    ensures { result ≡ kind_from read }
+pub fn kind(read: Read) -> Result<TokenType, Refusal>
+    ensures { kind_numbers result ≡ kind_from (told read) }
 {
     match read {
-        Read::Plain(token) | Read::Chars(token, _) => Ok(token),
-        Read::Boolean(_) => Ok(TokenType::BOOLEAN),
-        Read::Numeric(..) => Ok(TokenType::NUMERIC),
-        Read::Refused(refusal, _) => Err(refusal),
+        Ok(Token::Plain(kind) | Token::Chars(kind, _)) => Ok(kind),
+        Ok(Token::Boolean(_)) => Ok(TokenType::Boolean),
+        Ok(Token::Numeric(..)) => Ok(TokenType::Numeric),
+        Err(refused) => Err(refused.refusal),
     }
 }
 
@@ -102,28 +104,28 @@ pub struct Value {
 impl Value {
     // Ruled out, among others: a number counted without its exponent; a carry left out.
     pub fn of(read: Read) -> Value
-        requires { cell_count read ≤ max_chars }
-        ensures { result ≡ value_from read }
+        requires { cell_count (told read) ≤ max_chars }
+        ensures { result ≡ value_from (told read) }
     {
         match read {
-            Read::Plain(_) => Value::default(),
-            Read::Boolean(b) => Value {
+            Ok(Token::Plain(_)) => Value::default(),
+            Ok(Token::Boolean(b)) => Value {
                 extra: u32::from(b),
                 ..Value::default()
             },
-            Read::Numeric(before, after, minus, exponent) => Value {
+            Ok(Token::Numeric(before, after, minus, exponent)) => Value {
                 length: before + after + exponent,
                 before,
                 after,
                 exponent,
                 extra: u32::from(minus),
             },
-            Read::Chars(_, length) => Value {
+            Ok(Token::Chars(_, length)) => Value {
                 length,
                 ..Value::default()
             },
-            Read::Refused(_, carry) => Value {
-                extra: carry,
+            Err(refused) => Value {
+                extra: refused.carry,
                 ..Value::default()
             },
         }

@@ -16,7 +16,7 @@ use crate::item::{Item, Row};
 use crate::room::Room;
 use crate::{call, item};
 use lexer::flags::Flags;
-use lexer::token::Read;
+use lexer::token::Token;
 use scope::lent::{Lent, Sound};
 use search::known::Known;
 use text::refusal::Refusal;
@@ -36,7 +36,7 @@ fn put_start(start_type: u32, flags: Flags, rows: &mut [Row]) -> Progress
     ensures { (tok : Reader) (t store : List ℕ) → Stands tok start_type (flags_of flags) t rows.old store result rows.new store }
 {
     let start = Item {
-        read: Read::Plain(tokens::call::start_number(start_type)),
+        read: Ok(Token::Plain(tokens::call::start_type(start_type))),
         position: 0,
         flags,
         reach: 0,

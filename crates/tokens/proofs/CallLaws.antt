@@ -1,5 +1,5 @@
 -- The token call: the host's refusals in their order, a start token, or the token reader from the position on.
-use Rattle.std.specs.Prelude.{Option, None, Some}
+use Rattle.std.specs.Prelude.{Option, None, Some, Err}
 use mathlib.Core.Path.{◌≡◌, refl, ap, ◌∙◌, subst}
 use mathlib.Core.Bool.{Bool, true, false, cond, ◌||◌}
 use mathlib.Core.List.{List}
@@ -14,7 +14,7 @@ use Rattle.reading.specs.Cells.{maybe}
 use Rattle.reading.specs.Slices.{zeros}
 use Rattle.reading.proofs.Test.{by_test}
 use Rattle.text.specs.Limits.{max_chars}
-use Rattle.text.specs.Refusals.{too_long, short_slice, broken_scope, beyond_text}
+use Rattle.text.specs.Refusals.{too_long, short_slice, broken_scope, beyond_text, number_of}
 use Rattle.scope.specs.Entries.{ParsingScope}
 use Rattle.scope.specs.Keys.{is_name}
 use Rattle.scope.specs.Lent.{Lent, is_broken, scope_of}
@@ -27,7 +27,7 @@ use Rattle.tokens.specs.CalledBy.{state_of, refusal_of, Stepped, CalledBy, stand
 use Rattle.tokens.specs.declared.call.Lexer.{Lexer}
 use Rattle.tokens.specs.declared.call.Called.{Called}
 use Rattle.lexer.specs.declared.token.Outcome.{Outcome}
-use Rattle.lexer.specs.declared.token.Read.TheVariants.{Refused}
+use Rattle.text.specs.declared.refusal.Refusal.{Refusal}
 use Rattle.lexer.proofs.TokenFacts.{sound}
 use Rattle.lexer.proofs.AnsweredLaws.{Typed, formed_typed, says_coded}
 
@@ -89,7 +89,7 @@ step_typed lent s t limit = go s.pending
     go None = formed_typed (run (drop s.position t) (read_token (is_name (scope_of lent)) s.flags)).answer.read (sound (is_name (scope_of lent)) s.flags (drop s.position t) (rw length-drop (omega arith))).formed
 
 module _ (lent : Lent) (l : Lexer) (t o scratch : List ℕ) {scratch' : List ℕ} (clean : scratch' ≡ zeros (length scratch)) where
-  pub call_refused : (n : ℕ) → refusal_of lent l.position (length t) (length o) (length scratch) ≡ Some n → CalledBy (next_token lent (state_of l) t o scratch) (record { read = Refused n 0; place = l.position; next = l }) o scratch'
+  pub call_refused : (n : Refusal) → refusal_of lent l.position (length t) (length o) (length scratch) ≡ Some (number_of n) → CalledBy (next_token lent (state_of l) t o scratch) (record { read = Err (record { refusal = n; carry = 0 }); place = l.position; next = l }) o scratch'
   unfolding answered
   call_refused n e = rw (answered_by lent (state_of l) t o scratch, e) (record { read = record { means = refl; size = refl }; place = refl; next = refl; left = refl; clean = clean })
 

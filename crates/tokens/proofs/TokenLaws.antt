@@ -48,8 +48,12 @@ use Rattle.words.specs.declared.keywords.Found.{Found}
 use Rattle.std.specs.Prelude.{None, Some, Result, Ok, Err}
 use Rattle.lexer.specs.declared.flags.Flags.{Flags as CodeFlags}
 use Rattle.lexer.specs.declared.token.Outcome.{Outcome}
-use Rattle.lexer.specs.declared.token.Read.{Read as Answer}
-use Rattle.lexer.specs.declared.token.Read.TheVariants.{Numeric, Chars, Refused}
+use Rattle.lexer.specs.TypeNumber.{type_number}
+use Rattle.lexer.specs.Answered.{Told, numeric as told_numeric, letters}
+use Rattle.lexer.specs.declared.token.Token.{Token}
+use Rattle.lexer.specs.declared.token.Token.TheVariants.{Numeric, Chars}
+use Rattle.lexer.specs.declared.token.Refused.{Refused}
+use Rattle.lexer.specs.declared.token_type.TokenType.TheVariants.{String}
 use Rattle.lexer.proofs.NumberFacts.{numbers_digit, numbers_point}
 use Rattle.lexer.proofs.TokenFacts.{shown-holds}
 use Rattle.lexer.proofs.WindowLaws.{window-seen}
@@ -71,7 +75,7 @@ zero_length : (xs : List ℕ) {n k : ℕ} → n ≡ length xs → k ≡ max n 1 
 zero_length [] e q = omega arith
 zero_length (x ∷ xs) e q = omega arith
 
-numeric-same : {a b c a' b' c' : ℕ} (m : Bool) → a ≡ a' → b ≡ b' → c ≡ c' → Numeric a b m c ≡ Numeric a' b' m c'
+numeric-same : {a b c a' b' c' : ℕ} (m : Bool) → a ≡ a' → b ≡ b' → c ≡ c' → told_numeric a b m c ≡ told_numeric a' b' m c'
 numeric-same m p q r = rw (p, q, r)
 
 abbrev pub Starts : List ℕ → ℕ → Bool
@@ -87,7 +91,7 @@ module _ {t : List ℕ} {i : ℕ} {n : Number} (d : Numbered t i n) where
       (λ a. let b = both (is 0x2E (cell_at t i)) _ a in let s = (numbers_point t fuel fuel (omega arith) (omega arith) i b.0 b.1).holding in omega (arith, ap (λ x. length (cells_of x)) e, u, s.short, s.in_text))
 
   pub number-taken : {o o' : List ℕ} {k : ℕ} → Wrote o (digits_of t i n) k o' → (f : CodeFlags) {q to before : ℕ} → to ≡ max q n.reach → before ≡ max (n.before - i) 1
-      → Takes t q (with_flags (flags_of f) (read_number fuel i)) o (record { read = Numeric before (n.after - n.from) n.minus (n.end - n.exponent); used = n.end; flags = f; reach = to }) o'
+      → Takes t q (with_flags (flags_of f) (read_number fuel i)) o (record { read = Ok (Numeric before (n.after - n.from) n.minus (n.end - n.exponent)); used = n.end; flags = f; reach = to }) o'
   number-taken w f {q} {to} e b =
       let x = d.point in let y = d.second in let z = d.letter in let u = d.third in let v = d.within in
       record {
@@ -99,24 +103,24 @@ module _ {t : List ℕ} {i : ℕ} {n : Number} (d : Numbered t i n) where
 
 -- Strings.
 module _ (t : List ℕ) (i : ℕ) (f : CodeFlags) (q to : ℕ) where
-  abbrev Stringed : List ℕ → Answer → ℕ → List ℕ → Type 0
+  abbrev Stringed : List ℕ → Result Token Refused → ℕ → List ℕ → Type 0
   Stringed o a e o' = Takes t q (with_flags (flags_of f) (read_string fuel [] i)) o (record { read = a; used = e; flags = f; reach = to }) o'
 
   string_sees : {y : Result Literal Broken} (s : Inside t i y) → to ≡ max q (text_reach y) → Goes t q (with_flags (flags_of f) (read_string fuel [] i)) (outcome (text_of s.cells y) (text_end y) (flags_of f)) to
   string_sees s e = finds (takes s.sees _ (begins t q (with_flags (flags_of f) (read_string fuel [] i))) to (sym e))
 
-  pub string_broken : {b : Broken} {n : ℕ} {o : List ℕ} → Inside t i (Err b) → n ≡ number_of b.refusal → to ≡ max q b.reach → Stringed o (Refused n b.carry) b.place o
-  string_broken {b} s m r = record { read = refused (number_of b.refusal) b.carry; sees = string_sees s r; shown = ap (λ k. Refused k b.carry) m; left = refl }
+  pub string_broken : {b : Broken} {o : List ℕ} → Inside t i (Err b) → to ≡ max q b.reach → Stringed o (Err (record { refusal = b.refusal; carry = b.carry })) b.place o
+  string_broken {b} s r = record { read = refused (number_of b.refusal) b.carry; sees = string_sees s r; shown = refl; left = refl }
 
   module _ {x : Literal} (s : Inside t i (Ok x)) where
     is_at : {y : Literal} → x ≡ y → Inside t i (Ok y)
     is_at p = subst (λ z. Inside t i (Ok z)) p s
 
-    pub string_chars : {n e k : ℕ} {o o' : List ℕ} → x ≡ StringChars n e → Written t i o k o' → to ≡ max q (e + 1) → Stringed o (Chars TokenType.String k) e o'
+    pub string_chars : {n e k : ℕ} {o o' : List ℕ} → x ≡ StringChars n e → Written t i o k o' → to ≡ max q (e + 1) → Stringed o (Ok (Chars String k)) e o'
     string_chars {n} {e} p w r =
         let y = is_at p in
         let v = w.wrote y.cells e (e + 1) y.sees in
-        record { read = token TokenType.String (chars y.cells); sees = string_sees y r; shown = ap (Chars TokenType.String) v.size; left = v.left }
+        record { read = token TokenType.String (chars y.cells); sees = string_sees y r; shown = ap (letters TokenType.String) v.size; left = v.left }
 
     pub string_line : {e : ℕ} {o : List ℕ} {r : Outcome} → x ≡ LineEnds e → to ≡ max q (e + 2) → ((u : List ℕ) → Gives (outcome (token TokenType.YyUndef nothing) e (flags_of f)) to u r u) → Takes t q (with_flags (flags_of f) (read_string fuel [] i)) o r o
     string_line {e} {o} p r w = takes_given (string_sees (is_at p) r) (w o)
@@ -189,7 +193,7 @@ takes_done t q c g = takes_given (finds (begins t q (done c))) g
 -- A row that fits gives its token; if none does, what is read otherwise is read.
 module _ {t w : List ℕ} {i q : ℕ} {f : Flags} {m : Match} where
   pub row-taken : (rows : List Row) → Matched rows t q i w f m → (otherwise : Look spec.Outcome) {d : Found} → m.found ≡ Some d → {o : List ℕ} {r : Outcome}
-      → ((u : List ℕ) → Gives (outcome (token d.kind (value_of d.value)) d.end (after_word d.kind f)) m.reach u r u) → Takes t q (first_of fuel rows f w i otherwise) o r o
+      → ((u : List ℕ) → Gives (outcome (token (type_number d.kind) (value_of d.value)) d.end (after_word (type_number d.kind) f)) m.reach u r u) → Takes t q (first_of fuel rows f w i otherwise) o r o
   row-taken rows g otherwise p {o} h = takes_given (subst (λ x. Says rows t q i w f x m.reach) p g.says otherwise) (h o)
 
   pub row_missed : (rows : List Row) → Matched rows t q i w f m → {otherwise : Look spec.Outcome} → m.found ≡ None → {o o' : List ℕ} {r : Outcome}

@@ -12,9 +12,10 @@ use Rattle.lexer.specs.Read.{cells_of}
 use Rattle.lexer.specs.Lexer as spec
 use Rattle.lexer.specs.Lexer.{State, state, Step}
 use Rattle.lexer.specs.FlagsOf.{flags_of}
-use Rattle.lexer.specs.Answered.{Says}
+use Rattle.lexer.specs.Answered.{told, Says}
 use Rattle.lexer.specs.Taken.{coded}
-use Rattle.lexer.specs.declared.token.Read.{Read}
+use Rattle.lexer.specs.declared.token.Token.{Token}
+use Rattle.lexer.specs.declared.token.Refused.{Refused}
 use Rattle.tokens.specs.declared.call.Lexer.{Lexer}
 use Rattle.tokens.specs.declared.call.Called.{Called}
 
@@ -40,19 +41,19 @@ Admits n l (Err r) = n ≡ Some (number_of r)
 
 -- A step was made, its value written to the front of o.
 pub record Stepped (a : Step) (o : List ℕ) (r : Called) (o' : List ℕ) : Type 0 where
-  pub read : r.read ≡ coded a.read
+  pub read : told r.read ≡ coded a.read
   pub place : r.place ≡ a.next.position
   pub next : state_of r.next ≡ a.next
   pub left : o' ≡ front (cells_of a.read) o
 
 -- The call answers r and leaves output and scratch as they are then: r's case, by its number and value, is what is read.
 pub record CalledBy (c : spec.Called) (r : Called) (output scratch : List ℕ) : Type 0 where
-  pub read : Says r.read output c.read
+  pub read : Says (told r.read) output c.read
   pub place : r.place ≡ c.place
   pub next : state_of r.next ≡ c.next
   pub left : output ≡ c.output
   pub clean : scratch ≡ c.scratch
 
 -- A call on a lent lexer answers what was read and leaves the lexer at l: its place is l's position.
-abbrev pub standing : Read → Lexer → Called
+abbrev pub standing : Result Token Refused → Lexer → Called
 standing r l = record { read = r; place = l.position; next = l }

@@ -6,12 +6,13 @@ ghost use Rattle.scope.specs.Sound.{sound_scope};
 ghost use Rattle.lexer.specs.Lexer as spec;
 ghost use Rattle.lexer.specs.TokenType as type;
 ghost use Rattle.lexer.specs.FlagsOf.{flag_named};
+ghost use Rattle.lexer.specs.TypeNumber.{type_number};
 ghost use Rattle.lexer.specs.Fit.{Clear};
 ghost use Rattle.tokens.specs.CalledBy.{state_of, lent_of, refusal_of, Admits, Stepped, CalledBy};
 
 use crate::token;
 use lexer::flags::{Flag, Flags};
-use lexer::token::Read;
+use lexer::token::{Read, Refused, Token};
 use lexer::token_type::TokenType;
 use scope::lent::{Lent, Sound};
 use search::known::Known;
@@ -60,12 +61,21 @@ pub struct Called {
 }
 
 // The start token's type; the nine are 258 to 266, and any other gives YyError.
-pub fn start_number(k: u32) -> u32
-    ensures { result ≡ cond (is_one_of spec.start_types k) k type.YyError }
+#[tactic(auto, using(std::proofs::lemmas::Bool::Decides::nat_tests))]
+pub fn start_type(k: u32) -> TokenType
+    ensures { type_number result ≡ cond (is_one_of spec.start_types k) k type.YyError }
 {
     match k {
-        TokenType::START_EXPRESSION..=TokenType::START_RANGE_LITERAL => k,
-        _ => TokenType::YY_ERROR,
+        TokenType::START_EXPRESSION => TokenType::StartExpression,
+        TokenType::START_BOXED_EXPRESSION => TokenType::StartBoxedExpression,
+        TokenType::START_TEXTUAL_EXPRESSION => TokenType::StartTextualExpression,
+        TokenType::START_TEXTUAL_EXPRESSIONS => TokenType::StartTextualExpressions,
+        TokenType::START_UNARY_TESTS => TokenType::StartUnaryTests,
+        TokenType::START_SIMPLE_EXPRESSION => TokenType::StartSimpleExpression,
+        TokenType::START_SIMPLE_EXPRESSIONS => TokenType::StartSimpleExpressions,
+        TokenType::START_SIMPLE_VALUE => TokenType::StartSimpleValue,
+        TokenType::START_RANGE_LITERAL => TokenType::StartRangeLiteral,
+        _ => TokenType::YyError,
     }
 }
 
@@ -102,7 +112,7 @@ fn step(l: Lexer, text: &[u32], scope: Sound, out: &mut [u32], scratch: &mut [u3
     let p = l.position;
     if let Some(k) = l.due {
         return Called {
-            read: Read::Plain(start_number(k)),
+            read: Ok(Token::Plain(start_type(k))),
             place: p,
             next: Lexer { due: None, ..l },
         };
@@ -136,7 +146,7 @@ pub fn next_token(
     match admitted(text.len(), l.position, scope, out.len(), scratch.len()) {
         Ok(scope) => step(l, text, scope, out, scratch),
         Err(refusal) => Called {
-            read: Read::Refused(refusal.into(), 0),
+            read: Err(Refused { refusal, carry: 0 }),
             place: l.position,
             next: l,
         },

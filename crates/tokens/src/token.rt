@@ -16,12 +16,13 @@ ghost use Rattle.lexer.specs.Token.{fuel, with_flags, other_cases, behind_words,
 ghost use Rattle.lexer.specs.Shown.{window_of};
 ghost use Rattle.words.specs.Keywords.{value_of};
 ghost use Rattle.lexer.specs.FlagsOf.{flags_of};
+ghost use Rattle.lexer.specs.TypeNumber.{type_number};
 ghost use Rattle.lexer.specs.Fit.{Clear, Searchable};
 ghost use Rattle.lexer.specs.Taken.{Gives, Takes, Taken};
 
 use lexer::flags::{Flag, Flags};
 use lexer::string::Literal;
-use lexer::token::{Outcome, Read};
+use lexer::token::{Outcome, Refused, Token};
 use lexer::token_type::TokenType;
 use lexer::window;
 use search::known::Known;
@@ -30,11 +31,11 @@ use words::keywords;
 use words::keywords::Found;
 
 // A token without a value.
-fn plain(kind: u32, used: usize, flags: Flags, reach: usize) -> Outcome
-    ensures { (o : List ℕ) → Gives (spec.outcome (spec.token kind spec.nothing) used (flags_of flags)) reach o result o }
+fn plain(kind: TokenType, used: usize, flags: Flags, reach: usize) -> Outcome
+    ensures { (o : List ℕ) → Gives (spec.outcome (spec.token (type_number kind) spec.nothing) used (flags_of flags)) reach o result o }
 {
     Outcome {
-        read: Read::Plain(kind),
+        read: Ok(Token::Plain(kind)),
         used,
         flags,
         reach,
@@ -43,14 +44,14 @@ fn plain(kind: u32, used: usize, flags: Flags, reach: usize) -> Outcome
 
 // The word or symbol that was found.
 fn of_word(found: Found, flags: Flags, reach: usize) -> Outcome
-    ensures { (o : List ℕ) → Gives (spec.outcome (spec.token found.kind (value_of found.value)) found.end (after_word found.kind (flags_of flags))) reach o result o }
+    ensures { (o : List ℕ) → Gives (spec.outcome (spec.token (type_number found.kind) (value_of found.value)) found.end (after_word (type_number found.kind) (flags_of flags))) reach o result o }
 {
-    let read = match found.value {
-        Some(truth) => Read::Boolean(truth),
-        None => Read::Plain(found.kind),
+    let token = match found.value {
+        Some(truth) => Token::Boolean(truth),
+        None => Token::Plain(found.kind),
     };
     Outcome {
-        read,
+        read: Ok(token),
         used: found.end,
         flags: keywords::after_word(found.kind, flags),
         reach,
@@ -66,7 +67,7 @@ fn number_at(rest: &[u32], i: usize, q: usize, flags: Flags, out: &mut [u32]) ->
     lexer::number::write_number(rest, i, n, out);
     let before = (n.before - i).max(1);
     Outcome {
-        read: Read::Numeric(before, n.after - n.from, n.minus, n.end - n.exponent),
+        read: Ok(Token::Numeric(before, n.after - n.from, n.minus, n.end - n.exponent)),
         used: n.end,
         flags,
         reach: q.max(n.reach),
@@ -82,7 +83,10 @@ fn string_at(rest: &[u32], i: usize, q: usize, flags: Flags, out: &mut [u32]) ->
         Ok(literal) => literal,
         Err(broken) => {
             return Outcome {
-                read: Read::Refused(u32::from(broken.refusal), broken.carry),
+                read: Err(Refused {
+                    refusal: broken.refusal,
+                    carry: broken.carry,
+                }),
                 used: broken.place,
                 flags,
                 reach: q.max(broken.reach),
@@ -93,14 +97,14 @@ fn string_at(rest: &[u32], i: usize, q: usize, flags: Flags, out: &mut [u32]) ->
         Literal::Chars(_, end) => {
             let n = lexer::string::write_string(rest, i + 1, out);
             Outcome {
-                read: Read::Chars(TokenType::STRING, n),
+                read: Ok(Token::Chars(TokenType::String, n)),
                 used: end,
                 flags,
                 reach: q.max(end + 1),
             }
         }
-        Literal::LineEnds(end) => { plain(TokenType::YY_UNDEF, end, flags, q.max(end + 2)) }
-        Literal::TextEnds(end) => { plain(TokenType::YY_EOF, end, flags, q.max(end + 2)) }
+        Literal::LineEnds(end) => { plain(TokenType::YyUndef, end, flags, q.max(end + 2)) }
+        Literal::TextEnds(end) => { plain(TokenType::YyEof, end, flags, q.max(end + 2)) }
     }
 }
 
@@ -139,9 +143,9 @@ fn other_cases(
         };
     }
     if is_blank(rest, i) {
-        return plain(TokenType::YY_EOF, i, flags, q);
+        return plain(TokenType::YyEof, i, flags, q);
     }
-    plain(TokenType::YY_UNDEF, i, flags, q)
+    plain(TokenType::YyUndef, i, flags, q)
 }
 
 // Whether c, the character at i, is a point before a digit.

@@ -27,8 +27,10 @@ use Rattle.lexer.specs.Flags.{Flags}
 use Rattle.lexer.specs.Read.{Value, nothing, truth, number, chars, Outcome, outcome, token}
 use Rattle.lexer.specs.Window.{shown, Follow, anything, next, ahead, When, always, if_set, if_clear, Row, taken, leads, words, first_of, after_word}
 use Rattle.lexer.specs.Token.{fuel}
+use Rattle.lexer.specs.declared.token_type.TokenType.{TokenType}
+use Rattle.lexer.specs.declared.token_type.TokenType.TheVariants.{YyEof}
 use Rattle.lexer.specs.Shown.{window_of}
-use Rattle.words.specs.Keywords.{class_of, follow_of, when_of, row_of, rows_of, Lettered, is_row, are_rows, place_from, links_from, links_of, letter_words, pairs, initials, sign_of, sign_found, Followed, Matched}
+use Rattle.words.specs.Keywords.{class_of, follow_of, when_of, row_of, rows_of, Lettered, is_row, are_rows, place_from, links_from, links_of, letter_words, pairs, initials, sign_of, number_in, sign_found, Followed, Matched}
 use Rattle.words.specs.declared.keywords.Follower.{Follower}
 use Rattle.words.specs.declared.keywords.Follower.TheVariants.{Space, Less, ParenOrLess}
 use Rattle.words.specs.declared.keywords.When.TheVariants.{Always}
@@ -74,7 +76,7 @@ leads_inside (x ∷ l) t (suc k) i clean h b =
     neither false b h = (refl, h)
 
 abbrev pub no_word : Word
-no_word = record { letters = 0; follower = Space; when = Always; kind = 0; value = None; next = None }
+no_word = record { letters = 0; follower = Space; when = Always; kind = YyEof; value = None; next = None }
 
 -- What the tables' test says of a word.
 lettered : (l : List ℕ) (n : ℕ) → is_row l n ≡ true → Lettered l n
@@ -413,8 +415,8 @@ two_shown t i p q = rw (p, q, add-one i)
 
 -- A symbol of n characters, by its type, or none.
 pub sign_matched : (rs : List Row) (v : List ℕ) (n l : ℕ) → all_of (is_sign n) rs ≡ true → (t : List ℕ) (i q : ℕ) (f : Flags) → v ≡ window_of n t i → n + l ≡ 12 → 1 ≤ n → i ≤ length t → q ≤ length t + 12
-    → {d : Option Found} {to : ℕ} → d ≡ sign_found (sign_of rs v) (i + n) → to ≡ q → Matched rs t q i (window_of 12 t i) f (record { found = d; reach = to })
-sign_matched rs v n l test t i q f win size some inside near e m = rw (e, m) (go (sign_of rs v) refl)
+    → (k : Option TokenType) → number_in k ≡ sign_of rs v → {d : Option Found} {to : ℕ} → d ≡ sign_found k (i + n) → to ≡ q → Matched rs t q i (window_of 12 t i) f (record { found = d; reach = to })
+sign_matched rs v n l test t i q f win size some inside near k s e m = rw (e, m) (go k (sym s))
   where
     whole : window_of 12 t i ≡ v ++ window_of l t (i + n)
     whole = rw (← size, win) (window_parts n l t i)
@@ -428,7 +430,7 @@ sign_matched rs v n l test t i q f win size some inside near e m = rw (e, m) (go
     gives : (o : Look Outcome) → first_of fuel rs f (window_of 12 t i) i o ≡ sign_look (sign_of rs v) f (i + n) o
     gives o = rw whole (rw len at (signs_say v rs signs f (window_of l t (i + n)) i o))
 
-    go : (k : Option ℕ) → sign_of rs v ≡ k → Matched rs t q i (window_of 12 t i) f (record { found = sign_found k (i + n); reach = q })
+    go : (k : Option TokenType) → sign_of rs v ≡ number_in k → Matched rs t q i (window_of 12 t i) f (record { found = sign_found k (i + n); reach = q })
     go None h = record { from = omega arith; short = omega arith; within = inside; on = omega arith; near = near; says = λ o. record { same = ap (run_from t q) (rw h at (gives o)) } }
     go (Some k) h = record {
       from = omega arith;

@@ -11,6 +11,8 @@ use Rattle.lexer.specs.Flags.{Flags, UnaryTests, Between}
 use Rattle.lexer.specs.Read.{Value, nothing, truth, token, Outcome, outcome}
 use Rattle.lexer.specs.Window.{Follow, next, ahead, When, always, if_set, if_clear, Row, words, is_followed, first_of, after_word}
 use Rattle.lexer.specs.Token.{fuel}
+use Rattle.lexer.specs.TypeNumber.{type_number}
+use Rattle.lexer.specs.declared.token_type.TokenType.{TokenType}
 use Rattle.words.specs.declared.keywords.Follower.{Follower}
 use Rattle.words.specs.declared.keywords.Follower.TheVariants.{Space, Separator, SpaceOrParen, Less, ParenOrLess}
 use Rattle.words.specs.declared.keywords.When.{When as State}
@@ -47,7 +49,7 @@ value_of (Some b) = truth b
 
 -- A word with its letters.
 unfoldable pub row_of : List ℕ → Word → Row
-row_of l r = record { word = take r.letters l; follow = follow_of r.follower; when = when_of r.when; type = r.kind; value = value_of r.value }
+row_of l r = record { word = take r.letters l; follow = follow_of r.follower; when = when_of r.when; type = type_number r.kind; value = value_of r.value }
 
 unfoldable pub rows_of : List (List ℕ) → List Word → List Row
 unfolding row_of
@@ -112,6 +114,11 @@ links_from n (l ∷ ls) = place_from (suc n) ls (get_or l 0 0) ∷ links_from (s
 abbrev pub links_of : List Word → List (Option ℕ)
 links_of rs = map (λ r. r.next) rs
 
+-- The number of a type, if there is one.
+abbrev pub number_in : Option TokenType → Option ℕ
+number_in None = None
+number_in (Some k) = Some (type_number k)
+
 -- With q as the reach so far, what must follow a word of n letters was looked for.
 pub record Followed (t : List ℕ) (q : ℕ) (follow : Follow) (w : List ℕ) (n i : ℕ) (hit : Bool) (to : ℕ) : Type 0 where
   pub on : q ≤ to
@@ -119,7 +126,7 @@ pub record Followed (t : List ℕ) (q : ℕ) (follow : Follow) (w : List ℕ) (n
   pub goes : Goes t q (is_followed fuel follow w n i) hit to
 
 -- What is found where a symbol of a type ends at e.
-abbrev pub sign_found : Option ℕ → ℕ → Option Found
+abbrev pub sign_found : Option TokenType → ℕ → Option Found
 sign_found None e = None
 sign_found (Some k) e = Some (record { kind = k; value = None; end = e })
 
@@ -134,7 +141,7 @@ end_of i None = i
 
 -- A row that fits is the reading's answer, whatever would be read otherwise; if none does, the reading stands before that.
 abbrev pub Says : List Row → List ℕ → ℕ → ℕ → List ℕ → Flags → Option Found → ℕ → Type 0
-Says rs t r i w f (Some d) q = (o : Look Outcome) → Goes t r (first_of fuel rs f w i o) (outcome (token d.kind (value_of d.value)) d.end (after_word d.kind f)) q
+Says rs t r i w f (Some d) q = (o : Look Outcome) → Goes t r (first_of fuel rs f w i o) (outcome (token (type_number d.kind) (value_of d.value)) d.end (after_word (type_number d.kind) f)) q
 Says rs t r i w f None q = (o : Look Outcome) → Stands t r (first_of fuel rs f w i o) o q
 
 -- With r as the reach so far, the rows were tried on the window w at i.

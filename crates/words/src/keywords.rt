@@ -7,7 +7,8 @@ ghost use Rattle.text.specs.Limits.{max_chars};
 ghost use Rattle.lexer.specs.Window as spec;
 ghost use Rattle.lexer.specs.Shown.{window_of};
 ghost use Rattle.lexer.specs.FlagsOf.{flags_of};
-ghost use Rattle.words.specs.Keywords.{class_of, follow_of, when_of, row_of, rows_of, Lettered, are_rows, links_of, links_from, place_from, letter_words, initials, pairs, sign_of, sign_found, Followed, Matched};
+ghost use Rattle.lexer.specs.TypeNumber.{type_number};
+ghost use Rattle.words.specs.Keywords.{class_of, follow_of, when_of, row_of, rows_of, Lettered, are_rows, links_of, links_from, place_from, letter_words, initials, pairs, sign_of, number_in, sign_found, Followed, Matched};
 
 use lexer::flags::Flags;
 use lexer::token_type::TokenType;
@@ -40,7 +41,7 @@ struct Word {
     letters: usize,
     follower: Follower,
     when: When,
-    kind: u32,
+    kind: TokenType,
     value: Option<bool>,
     next: Option<usize>,
 }
@@ -89,30 +90,30 @@ static LETTERS: [[u8; 9]; COUNT] = [
 ];
 
 static WORDS: [Word; COUNT] = [
-    word!(9, Space, Always, SATISFIES, None, Some(13)),
-    word!(8, Space, Always, EXTERNAL, None, Some(7)),
-    word!(8, ParenOrLess, Always, FUNCTION, None, Some(8)),
-    word!(8, Space, Always, INSTANCE, None, Some(20)),
-    word!(7, Space, Always, BETWEEN, None, None),
-    word!(7, Less, Always, CONTEXT, None, None),
-    word!(6, Space, Always, RETURN, None, Some(9)),
-    word!(5, Space, Always, EVERY, None, Some(11)),
-    word!(5, Separator, Always, BOOLEAN, Some(false), Some(18)),
-    word!(5, Less, Always, RANGE, None, None),
-    word!(4, Separator, Always, NULL, None, Some(19)),
-    word!(4, Space, Always, ELSE, None, None),
-    word!(4, Less, Always, LIST, None, None),
-    word!(4, Space, Always, SOME, None, None),
-    word!(4, Space, Always, THEN, None, Some(15)),
-    word!(4, Separator, Always, BOOLEAN, Some(true), None),
-    word!(3, Space, OutsideBetween, AND, None, Some(17)),
-    word!(3, Space, InsideBetween, BETWEEN_AND, None, None),
-    word!(3, Space, Always, FOR, None, None),
-    word!(3, SpaceOrParen, InUnaryTests, NOT, None, None),
-    word!(2, Space, Always, IF, None, Some(21)),
-    word!(2, Space, Always, IN, None, None),
-    word!(2, Space, Always, OF, None, Some(23)),
-    word!(2, Space, Always, OR, None, None),
+    word!(9, Space, Always, Satisfies, None, Some(13)),
+    word!(8, Space, Always, External, None, Some(7)),
+    word!(8, ParenOrLess, Always, Function, None, Some(8)),
+    word!(8, Space, Always, Instance, None, Some(20)),
+    word!(7, Space, Always, Between, None, None),
+    word!(7, Less, Always, Context, None, None),
+    word!(6, Space, Always, Return, None, Some(9)),
+    word!(5, Space, Always, Every, None, Some(11)),
+    word!(5, Separator, Always, Boolean, Some(false), Some(18)),
+    word!(5, Less, Always, Range, None, None),
+    word!(4, Separator, Always, Null, None, Some(19)),
+    word!(4, Space, Always, Else, None, None),
+    word!(4, Less, Always, List, None, None),
+    word!(4, Space, Always, Some, None, None),
+    word!(4, Space, Always, Then, None, Some(15)),
+    word!(4, Separator, Always, Boolean, Some(true), None),
+    word!(3, Space, OutsideBetween, And, None, Some(17)),
+    word!(3, Space, InsideBetween, BetweenAnd, None, None),
+    word!(3, Space, Always, For, None, None),
+    word!(3, SpaceOrParen, InUnaryTests, Not, None, None),
+    word!(2, Space, Always, If, None, Some(21)),
+    word!(2, Space, Always, In, None, None),
+    word!(2, Space, Always, Of, None, Some(23)),
+    word!(2, Space, Always, Or, None, None),
 ];
 
 // The first word that begins with x.
@@ -139,43 +140,43 @@ fn first_row(x: u32) -> Option<usize>
 
 // The type of the symbol that c is.
 #[tactic(auto, using(std::proofs::lemmas::Bool::Decides::nat_tests), unfolding(crate::specs::Keywords::sign_of, lexer::specs::Window::symbols))]
-fn symbol(c: u32) -> Option<u32>
-    ensures { result ≡ sign_of spec.symbols (c ∷ []) }
+fn symbol(c: u32) -> Option<TokenType>
+    ensures { number_in result ≡ sign_of spec.symbols (c ∷ []) }
 {
     match c {
-        Char::DOT => Some(TokenType::DOT),
-        Char::COMMA => Some(TokenType::COMMA),
-        Char::COLON => Some(TokenType::COLON),
-        Char::PLUS => Some(TokenType::PLUS),
-        Char::MINUS => Some(TokenType::MINUS),
-        Char::STAR => Some(TokenType::MUL),
-        Char::SLASH => Some(TokenType::DIV),
-        Char::EQUAL => Some(TokenType::EQ),
-        Char::LESS => Some(TokenType::LT),
-        Char::GREATER => Some(TokenType::GT),
-        Char::LEFT_PAREN => Some(TokenType::LEFT_PAREN),
-        Char::RIGHT_PAREN => Some(TokenType::RIGHT_PAREN),
-        Char::LEFT_BRACKET => Some(TokenType::LEFT_BRACKET),
-        Char::RIGHT_BRACKET => Some(TokenType::RIGHT_BRACKET),
-        Char::LEFT_BRACE => Some(TokenType::LEFT_BRACE),
-        Char::RIGHT_BRACE => Some(TokenType::RIGHT_BRACE),
-        Char::AT => Some(TokenType::AT),
+        Char::DOT => Some(TokenType::Dot),
+        Char::COMMA => Some(TokenType::Comma),
+        Char::COLON => Some(TokenType::Colon),
+        Char::PLUS => Some(TokenType::Plus),
+        Char::MINUS => Some(TokenType::Minus),
+        Char::STAR => Some(TokenType::Mul),
+        Char::SLASH => Some(TokenType::Div),
+        Char::EQUAL => Some(TokenType::Eq),
+        Char::LESS => Some(TokenType::Lt),
+        Char::GREATER => Some(TokenType::Gt),
+        Char::LEFT_PAREN => Some(TokenType::LeftParen),
+        Char::RIGHT_PAREN => Some(TokenType::RightParen),
+        Char::LEFT_BRACKET => Some(TokenType::LeftBracket),
+        Char::RIGHT_BRACKET => Some(TokenType::RightBracket),
+        Char::LEFT_BRACE => Some(TokenType::LeftBrace),
+        Char::RIGHT_BRACE => Some(TokenType::RightBrace),
+        Char::AT => Some(TokenType::At),
         _ => None,
     }
 }
 
 // The type of the symbol that c and d are.
 #[tactic(auto, using(std::proofs::lemmas::Bool::Decides::nat_tests), unfolding(crate::specs::Keywords::sign_of, crate::specs::Keywords::pairs))]
-fn pair(c: u32, d: u32) -> Option<u32>
-    ensures { result ≡ sign_of pairs (c ∷ d ∷ []) }
+fn pair(c: u32, d: u32) -> Option<TokenType>
+    ensures { number_in result ≡ sign_of pairs (c ∷ d ∷ []) }
 {
     match (c, d) {
-        (Char::DOT, Char::DOT) => Some(TokenType::ELLIPSIS),
-        (Char::STAR, Char::STAR) => Some(TokenType::EXP),
-        (Char::EXCLAMATION_MARK, Char::EQUAL) => Some(TokenType::NE),
-        (Char::LESS, Char::EQUAL) => Some(TokenType::LE),
-        (Char::GREATER, Char::EQUAL) => Some(TokenType::GE),
-        (Char::MINUS, Char::GREATER) => Some(TokenType::RIGHT_ARROW),
+        (Char::DOT, Char::DOT) => Some(TokenType::Ellipsis),
+        (Char::STAR, Char::STAR) => Some(TokenType::Exp),
+        (Char::EXCLAMATION_MARK, Char::EQUAL) => Some(TokenType::Ne),
+        (Char::LESS, Char::EQUAL) => Some(TokenType::Le),
+        (Char::GREATER, Char::EQUAL) => Some(TokenType::Ge),
+        (Char::MINUS, Char::GREATER) => Some(TokenType::RightArrow),
         _ => None,
     }
 }
@@ -259,7 +260,7 @@ fn leads(letters: &[u8], w: [u32; 12]) -> bool
 // A word or symbol that was found: its type, its value and its end.
 #[derive(Clone, Copy)]
 pub struct Found {
-    pub kind: u32,
+    pub kind: TokenType,
     pub value: Option<bool>,
     pub end: usize,
 }
@@ -329,7 +330,7 @@ fn first_of(
 }
 
 // The symbol of n characters at i, by its type.
-fn of_sign(kind: Option<u32>, n: usize, i: usize, reach: usize) -> Match
+fn of_sign(kind: Option<TokenType>, n: usize, i: usize, reach: usize) -> Match
     requires { (i ≤ max_chars) × (n ≤ 2) }
     ensures { (result.found ≡ sign_found kind (i + n)) × (result.reach ≡ reach) }
 {
@@ -368,10 +369,10 @@ pub fn first_symbol(rest: &[u32], i: usize, c: u32, flags: Flags, r: usize) -> M
 
 // The flags after a word of this type: BetweenAnd clears `between`.
 // Ruled out, among others: `between` cleared by And; `unary_tests` cleared with it.
-pub fn after_word(kind: u32, flags: Flags) -> Flags
-    ensures { flags_of result ≡ spec.after_word kind (flags_of flags) }
+pub fn after_word(kind: TokenType, flags: Flags) -> Flags
+    ensures { flags_of result ≡ spec.after_word (type_number kind) (flags_of flags) }
 {
-    if kind == TokenType::BETWEEN_AND {
+    if kind == TokenType::BetweenAnd {
         return Flags {
             between: false,
             ..flags

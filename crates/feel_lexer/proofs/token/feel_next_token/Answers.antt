@@ -1,5 +1,5 @@
 -- The forms, then what the token call answers.
-use Rattle.std.proofs.Common.{ap, length}
+use Rattle.std.proofs.Common.{ap, ◌∙◌, length}
 use Rattle.reading.proofs.Test.{both}
 use Rattle.feel_lexer.proofs.StateLaws.{lexer_sized}
 use Rattle.feel_lexer.proofs.TokenLaws.{value_short, token_taken}
@@ -17,4 +17,4 @@ pub returns-in-Ok : goal.returns-in-Ok
 returns-in-Ok c =
     let a = c.args in
     token_taken a.lexer.now a.scope.now a.slots.now a.names.now a.text.now a.out.now a.scratch.now a.answer.now c.in-Ok.l c.in-Ok.ensures.1 c.scope_of.result c.scope_of.ensures c.next_token-c.ensures
-    c.in-Ok.ensures.0 c.put_lexer.ensures c.put_read.ensures.0 c.put_read.ensures.1
+    c.in-Ok.ensures.0 c.put_lexer.ensures (c.number.ensures ∙ c.put_read.ensures.0) c.put_read.ensures.1

@@ -5,4 +5,4 @@ use Rattle.runs.proofs.RanLaws.{stands_start}
 use Rattle.runs.proofs.run.put_start.Goals as goal
 
 pub returns : goal.returns
-returns c = stands_start c.start_number.ensures c.row-row.ensures (omega arith) refl c.ends_run.ensures
+returns c = stands_start c.start_type.ensures c.row-row.ensures (omega arith) refl c.ends_run.ensures

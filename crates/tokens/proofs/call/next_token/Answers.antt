@@ -24,4 +24,4 @@ pub returns-in-Err : goal.returns-in-Err
 returns-in-Err c =
     let x = c.args in
     let a = rw c.in-Err.is at c.admitted.ensures in
-    rw c.into.ensures (call_refused (lent_of x.scope) x.l x.text.now x.out.now x.scratch.now (filled (c.fill.ensures.after (λ y e. e)) refl) _ (rw c.fill.ensures.len at a))
+    call_refused (lent_of x.scope) x.l x.text.now x.out.now x.scratch.now (filled (c.fill.ensures.after (λ y e. e)) refl) _ (rw c.fill.ensures.len at a)

@@ -3,7 +3,7 @@ use Rattle.tokens.proofs.TokenLaws.{string_chars, string_line, string_text, stri
 use Rattle.tokens.proofs.token.string_at.Goals as goal
 
 pub returns-in-Err : goal.returns-in-Err
-returns-in-Err c = string_broken _ _ c.args.flags _ _ c.in-Err.ensures c.from.ensures c.max.ensures
+returns-in-Err c = string_broken _ _ c.args.flags _ _ c.in-Err.ensures c.max.ensures
 
 pub returns-in-Chars : goal.returns-in-Chars
 returns-in-Chars c = string_chars _ _ c.args.flags _ _ c.in-Ok.ensures c.in-Chars.is c.write_string-n.ensures c.max-in-Chars.ensures

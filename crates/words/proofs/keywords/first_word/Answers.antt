@@ -1,11 +1,10 @@
 -- The first character decides between the words of letters and the symbols of two characters.
 use mathlib.Core.Path.{refl, ap, ◌∙◌}
-use Prim.Native.Nat.{◌+◌}
 use native.Mathlib.Omega.{arith}
 use Rattle.std.specs.Prelude.{is_some}
 use Rattle.lexer.specs.FlagsOf.{flags_of}
 use Rattle.lexer.specs.Shown.{window_of}
-use Rattle.words.specs.Keywords.{rows_of, are_rows, links_from, place_from, letter_words, pairs, initials, sign_found}
+use Rattle.words.specs.Keywords.{rows_of, are_rows, links_from, place_from, letter_words, pairs, initials}
 use Rattle.words.proofs.KeywordLaws.{by_letters, by_pairs, same_rows, sign_matched, two_shown}
 use Rattle.words.proofs.keywords.first_word.Goals as goal
 
@@ -25,4 +24,4 @@ returns c =
     let i = c.args.i in
     by_pairs t i _ (c.is_some.ensures ∙ ap is_some (c.first_row-first.ensures ∙ ap (place_from 0 initials) c.requires.2)) c.if-is_some.false
     (sign_matched pairs _ 2 10 refl t i _ (flags_of c.args.flags) (two_shown t i c.requires.2 c.shown_at-d.ensures) (omega arith) (omega arith) (omega arith) (omega arith)
-    (c.of_sign.ensures.0 ∙ ap (λ k. sign_found k (i + 2)) c.pair.ensures) c.of_sign.ensures.1)
+    _ c.pair.ensures c.of_sign.ensures.0 c.of_sign.ensures.1)
