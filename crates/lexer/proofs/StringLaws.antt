@@ -1,5 +1,7 @@
 -- Each way through a string's inside, followed look by look with its reach, which a character may leave open by one.
 use Rattle.std.specs.Prelude.{None, Some, Result, Ok, Err}
+use Rattle.std.specs.List.{FoldsTo}
+use Rattle.std.proofs.lemmas.Fn.{FoldsTo-push, chained_keeps}
 use mathlib.Core.Path.{◌≡◌, refl, sym, ◌∙◌, ap, subst}
 use mathlib.Core.Bool.{false≢true, Bool, true, false, ◌||◌, not}
 use mathlib.Core.List.{List, [], ◌∷◌, ◌++◌}
@@ -11,8 +13,7 @@ use borrow.Author.Tests.{lt-ltb, le-ltb, le-leb, lt-leb, eq-eqb, ne_eqb}
 use Rattle.reading.specs.Look.{Look, done, cell_at}
 use Rattle.reading.specs.Goes.{got, Goes}
 use Rattle.reading.specs.Slices.{front}
-use Rattle.reading.specs.Cells.{holds}
-use Rattle.reading.proofs.Cell.{cell_in, cell_out, cell_there, holds_in}
+use Rattle.reading.proofs.Cell.{cell_in, cell_out}
 use Rattle.reading.proofs.Front.{front_snoc}
 use Rattle.reading.proofs.Going.{Stands, begins, asks, takes_on, finds, goes_on_lem}
 use Rattle.text.specs.Limits.{max_chars}
@@ -29,8 +30,9 @@ use Rattle.text.specs.declared.refusal.Refusal.TheVariants.{NoHexDigit, EndAtHex
 use Rattle.lexer.specs.declared.string.Broken.{Broken}
 use Rattle.lexer.specs.declared.string.Piece.{Piece}
 use Rattle.lexer.specs.declared.string.Piece.TheVariants.{Char, Quote, LineEnd, TextEnd}
+use Rattle.lexer.specs.declared.string.Literal.{Literal}
 use Rattle.lexer.specs.declared.string.Literal.TheVariants.{Chars, LineEnds, TextEnds}
-use Rattle.lexer.specs.Pieces.{is_plain, Inside, Written, hex_of, hex_reach, Hexed, piece_of, least_end, end_of, Pieced, At}
+use Rattle.lexer.specs.Pieces.{is_plain, Inside, is_string, Handed, Written, hex_of, hex_reach, Hexed, piece_of, least_end, end_of, Pieced, At}
 
 abbrev Answer : Type 0
 Answer = Result Piece Broken
@@ -237,12 +239,8 @@ module _ (t : List ℕ) (i : ℕ) where
         piece_one h r u = record { reach = i + 2; low = omega arith; high = omega arith; from = omega arith; within = omega arith; goes = λ s. finds (rw (ne_eqb 0x5C x e, ne_eqb 0x22 x f, sym g ∙ h) at (there_looked r u s)) }
 
     -- A character that is none of those stands for itself.
-    plain_piece : {b : Bool} → is_plain x ≡ b → b ≡ true → At t i (Ok (Char x (i + 1)))
+    pub plain_piece : {b : Bool} → is_plain x ≡ b → b ≡ true → At t i (Ok (Char x (i + 1)))
     plain_piece p f r u = record { reach = i + 2; low = omega arith; high = omega arith; from = omega arith; within = omega arith; goes = λ s. let z = none_of (eqb 0x5C x) (eqb 0x22 x) (is_vertical_space x) (p ∙ f) in finds (rw (z.0, z.1, z.2) at (there_looked r u s)) }
-
--- A plain character that is there.
-pub plain_there : (t : List ℕ) (i : ℕ) {b : Bool} → b ≡ holds is_plain (cell_at t i) → b ≡ true → At t i (Ok (Char (get_or t i 0) (i + 1)))
-plain_there t i e h = let l = cell_there is_plain t i (sym e ∙ h) in plain_piece t i l refl (holds_in is_plain t i l) (sym e ∙ h)
 
 pub at_ok : (t : List ℕ) (i : ℕ) {p x : Piece} → At t i (Ok p) → p ≡ x → At t i (Ok x)
 at_ok t i g e = subst (λ y. At t i (Ok y)) e g
@@ -339,47 +337,64 @@ same_chars e = let f = ap (λ s. s.answer.0) e in cc
 same_kind : {x y : Read} {i j q r : ℕ} → got {A = Read × ℕ} (x, i) q ≡ got {A = Read × ℕ} (y, j) r → kind x ≡ kind y
 same_kind e = ap (λ s. kind s.answer.0) e
 
--- the loop that writes has written the characters so far
-pub record Writing (t o : List ℕ) (from i n : ℕ) (o' : List ℕ) : Type 0 where
+none_written : {t o : List ℕ} {i n : ℕ} {o' : List ℕ} {x : Read} {j r : ℕ} → Goes t 0 (spec.read_string fuel [] i) (x, j) r → kind x ≡ false → Written t i o n o'
+none_written m d = record { wrote = λ cells e q s. absurd (false≢true (sym d ∙ same_kind (sym m.same ∙ s.same))) }
+
+-- the walk has handed on the characters so far, each of which took f a step further
+pub record Handing {F : Type 0} (step : F → ℕ → F → Type 0) (t : List ℕ) (from i n : ℕ) (f f' : F) : Type 0 where
   pub walk : Walking t from i n
-  pub same : length o' ≡ length o
-  pub left : o' ≡ front walk.sofar o
+  pub handed : FoldsTo step f walk.sofar f'
 
-pub writing_none : (t o : List ℕ) (i : ℕ) → i ≤ length t → length t ≤ max_chars → Writing t o i i 0 o
+pub handing_none : {F : Type 0} (step : F → ℕ → F → Type 0) (t : List ℕ) (i : ℕ) (f : F) → i ≤ length t → length t ≤ max_chars → Handing step t i i 0 f f
 unfolding walking_none
-writing_none t o i h l = record { walk = walking_none t i h l; same = refl; left = refl }
+handing_none step t i f h l = record { walk = walking_none t i h l; handed = refl }
 
-module _ {t o : List ℕ} {from i n : ℕ} {o' : List ℕ} (k : Writing t o from i n o') where
-  pub writing_more : length t ≤ length o → {c j : ℕ} → At t i (Ok (Char c j)) → Writing t o from j (n + 1) (set o' n c)
+module _ {F : Type 0} {step : F → ℕ → F → Type 0} {t : List ℕ} {from i n : ℕ} {f f' : F} (k : Handing step t from i n f f') where
+  pub handing_few : {c j : ℕ} → At t i (Ok (Char c j)) → length k.walk.sofar < length t
+  handing_few g = let l = walking_on k.walk g in let u = k.walk.on in let w = k.walk.size in omega arith
+
+  pub handing_more : {c j : ℕ} → At t i (Ok (Char c j)) → {f'' : F} → step f' c f'' → Handing step t from j (n + 1) f f''
   unfolding walking_more
-  writing_more h {c} {j} g =
-      let l = walking_on k.walk g in
-      let u = k.walk.on in
-      let w = k.walk.size in
-      let s : length k.walk.sofar < length o = omega arith in
+  handing_more {c} g {f''} s = record { walk = walking_more k.walk g; handed = FoldsTo-push step f k.walk.sofar f' c f'' k.handed s }
+
+  pub handing_ended : {j : ℕ} → At t i (Ok (Quote j)) → Handed step t from f (Ok (Chars n j)) f'
+  unfolding walking_ended
+  handing_ended g = record { inside = walking_ended k.walk g; handed = λ _. k.handed }
+
+-- What breaks off hands on nothing that is told.
+pub handed_not : {F : Type 0} {step : F → ℕ → F → Type 0} {t : List ℕ} {i : ℕ} {f f' : F} {x : Result Literal Broken} → Inside t i x → is_string x ≡ false → Handed step t i f x f'
+handed_not h e = record { inside = h; handed = λ g. absurd (false≢true (sym e ∙ g)) }
+
+-- The characters of a string were written, whatever wrote them.
+pub written_by : {t o : List ℕ} {i n : ℕ} {o' : List ℕ} (x : Result Literal Broken) (h : Inside t i x) → (is_string x ≡ true → (n ≡ length h.cells) × (o' ≡ front h.cells o)) → Written t i o n o'
+written_by (Ok (Chars m j)) h w = record {
+  wrote = λ cells e q s.
+      let x : h.cells ≡ cells = same_chars (sym h.sees.same ∙ s.same) in
+      let z = w refl in
+      record { size = rw (← x) z.0; left = rw (← x) z.1 };
+}
+written_by (Ok (LineEnds j)) h w = none_written h.sees refl
+written_by (Ok (TextEnds j)) h w = none_written h.sees refl
+written_by (Err b) h w = none_written h.sees refl
+
+-- What takes each character writes it behind those before it, counts it, and keeps what it writes to.
+module _ {F N : Type 0} {step : F → ℕ → F → Type 0} (out : F → List ℕ) (n : F → ℕ) (to : F → N) (each : (f : F) (c : ℕ) (f' : F) → step f c f' → (out f' ≡ set (out f) (n f) c) × (n f' ≡ n f + 1) × (to f' ≡ to f)) where
+  pub record Put (o : List ℕ) (w : N) (cells : List ℕ) (f : F) : Type 0 where
+    pub count : n f ≡ length cells
+    pub same : length (out f) ≡ length o
+    pub left : length cells ≤ length o → out f ≡ front cells o
+    pub kept : to f ≡ w
+
+  put_more : (o : List ℕ) (w : N) (cells : List ℕ) (f : F) (c : ℕ) (f' : F) → Put o w cells f → step f c f' → Put o w (cells ++ c ∷ []) f'
+  put_more o w cells f c f' p s =
+      let e = each f c f' s in
+      let a = length-append cells (c ∷ []) in
       record {
-        walk = walking_more k.walk g;
-        same = length-set o' n c ∙ k.same;
-        left = rw (k.left, w) (front_snoc k.walk.sofar o c s);
+        count = omega (arith, p.count, e.1, a);
+        same = ap length e.0 ∙ length-set (out f) (n f) c ∙ p.same;
+        left = λ h. e.0 ∙ (let l : length cells < length o = omega (arith, a, h) in rw (p.left (omega (arith, l)), p.count) (front_snoc cells o c l));
+        kept = e.2 ∙ p.kept;
       }
 
-  writing_ended : {j : ℕ} → At t i (Ok (Quote j)) → Written t from o n o'
-  writing_ended {j} g = record {
-    wrote = λ cells e q s.
-        let m = finds (met k.walk (g k.walk.reach k.walk.near)) in
-        let x : k.walk.sofar ≡ cells = same_chars (sym m.same ∙ s.same) in
-        record { size = rw (← x) k.walk.size; left = rw (← x) k.left };
-  }
-
-  writing_none_ended : {x : Read} {j r : ℕ} → Goes t 0 (spec.read_string fuel [] from) (x, j) r → kind x ≡ false → Written t from o n o'
-  writing_none_ended m d = record { wrote = λ cells e q s. absurd (false≢true (sym d ∙ same_kind (sym m.same ∙ s.same))) }
-
-  -- Whatever ends the loop is no character.
-  pub writing_other : (p : Piece) → At t i (Ok p) → ((c j : ℕ) → p ≡ Char c j → ⊥) → Written t from o n o'
-  writing_other (Char c j) g h = absurd (h c j refl)
-  writing_other (Quote j) g h = writing_ended g
-  writing_other (LineEnd j) g h = writing_none_ended (walking_undef k.walk g).sees refl
-  writing_other (TextEnd j) g h = writing_none_ended (walking_over k.walk g).sees refl
-
-  pub writing_refused : {b : Broken} → At t i (Err b) → Written t from o n o'
-  writing_refused g = writing_none_ended (walking_refused k.walk g).sees refl
+  pub put_all : {f f' : F} (cells : List ℕ) → n f ≡ 0 → FoldsTo step f cells f' → Put (out f) (to f) cells f'
+  put_all {f} {f'} cells z s = chained_keeps step (Put (out f) (to f)) (put_more (out f) (to f)) cells f f' (record { count = z; same = refl; left = λ _. refl; kept = refl }) s

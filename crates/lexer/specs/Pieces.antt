@@ -1,5 +1,6 @@
 -- What the code of strings answers, in the terms of the readings.
-use Rattle.std.specs.Prelude.{◌≡◌, Bool, not, ◌||◌, List, [], ℕ, ◌+◌, ◌≤◌, eqb, length, Result, Ok, Err}
+use Rattle.std.specs.Prelude.{◌≡◌, Bool, true, false, not, ◌||◌, List, [], ℕ, ◌+◌, ◌≤◌, eqb, length, Result, Ok, Err}
+use Rattle.std.specs.List.{FoldsTo}
 use Rattle.text.specs.Classes.{is_vertical_space}
 use Rattle.text.specs.Refusals.{number_of}
 use Rattle.reading.specs.Look.{Look}
@@ -120,6 +121,17 @@ pub record Inside (t : List ℕ) (i : ℕ) (x : Result Literal Broken) : Type 0 
   pub from : i + text_count x ≤ text_end x
   pub within : text_end x ≤ length t
   pub sees : Goes {A = Read × ℕ} t 0 (spec.read_string fuel [] i) (text_of cells x, text_end x) (text_reach x)
+
+abbrev pub is_string : Result Literal Broken → Bool
+is_string (Ok (Chars n e)) = true
+is_string (Ok (LineEnds e)) = false
+is_string (Ok (TextEnds e)) = false
+is_string (Err b) = false
+
+-- The same, and the characters of a string were handed on one by one, each of which took f by a step.
+pub record Handed {F : Type 0} (step : F → ℕ → F → Type 0) (t : List ℕ) (i : ℕ) (f : F) (x : Result Literal Broken) (f' : F) : Type 0 where
+  pub inside : Inside t i x
+  pub handed : is_string x ≡ true → FoldsTo step f inside.cells f'
 
 -- If the reading from i on is a string, its characters were written.
 pub record Written (t : List ℕ) (i : ℕ) (o : List ℕ) (n : ℕ) (o' : List ℕ) : Type 0 where

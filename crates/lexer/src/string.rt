@@ -1,10 +1,10 @@
 // String literals, in two passes: the first reads without writing, so that a string that breaks off has written nothing.
-ghost use Rattle.std.specs.Prelude.{◌≡◌, ◌||◌, ◌+◌, ◌-◌, ◌*◌, ◌≤◌, ◌<◌, eqb, length};
+ghost use Rattle.std.specs.Prelude.{◌≡◌, ◌||◌, List, ℕ, ◌+◌, ◌-◌, ◌*◌, ◌≤◌, ◌<◌, eqb, length};
+ghost use Rattle.std.specs.List.{FoldsTo};
 ghost use Rattle.text.specs.Limits.{max_chars};
 ghost use Rattle.lexer.specs.Text as spec;
-ghost use Rattle.lexer.specs.Pieces.{is_plain, Hexed, Pieced, At, Inside, Written};
+ghost use Rattle.lexer.specs.Pieces.{is_plain, Hexed, Pieced, At, Inside, Handed, Written};
 
-use crate::look;
 use text::chars::Char;
 use text::classes::{Class, VerticalSpace};
 use text::refusal::Refusal;
@@ -212,30 +212,38 @@ pub enum Literal {
     TextEnds(usize),
 }
 
+// Goes through the string whose inside starts at `from`, and hands on its characters one by one.
+#[inline(always)]
+fn each_char<F: FnMut(u32)>(rest: &[u32], from: usize, take: &mut F) -> Result<Literal, Broken>
+    requires fits { (length rest.now ≤ max_chars) × (from ≤ length rest.now) }
+    requires takes { (cells : List ℕ) (f : F) (c : ℕ) → FoldsTo (λ p x q. F.step p x tt q) take.old cells f → length cells < length rest.now → F.pre f c }
+    ensures { Handed (λ p x q. F.step p x tt q) rest.now from take.old result take.new }
+{
+    let mut i = from;
+    let mut n = 0;
+    loop {
+        let (c, end) = match rest.get(i) {
+            Some(c) if Plain::has(*c) => (*c, i + 1),
+            _ => match read_piece(rest, i)? {
+                Piece::Char(c, end) => (c, end),
+                Piece::Quote(end) => return Ok(Literal::Chars(n, end)),
+                Piece::LineEnd(end) => return Ok(Literal::LineEnds(end)),
+                Piece::TextEnd(end) => return Ok(Literal::TextEnds(end)),
+            },
+        };
+        take(c);
+        i = end;
+        n += 1;
+    }
+}
+
 // The string whose inside starts at `from`, without writing it.
 // Ruled out, among others: a lone half taken for a character; the reach of an escape's end taken for the quote's.
 pub fn read_string(rest: &[u32], from: usize) -> Result<Literal, Broken>
     requires { (length rest.now ≤ max_chars) × (from ≤ length rest.now) }
     ensures { Inside rest.now from result }
 {
-    let mut i = from;
-    let mut n = 0;
-    loop {
-        if look::holds_at::<Plain>(rest, i) {
-            i += 1;
-            n += 1;
-            continue;
-        }
-        match read_piece(rest, i)? {
-            Piece::Char(_, end) => {
-                i = end;
-                n += 1;
-            }
-            Piece::Quote(end) => return Ok(Literal::Chars(n, end)),
-            Piece::LineEnd(end) => return Ok(Literal::LineEnds(end)),
-            Piece::TextEnd(end) => return Ok(Literal::TextEnds(end)),
-        }
-    }
+    each_char(rest, from, &mut |_| ())
 }
 
 // Writes the characters of the string whose inside starts at `from` to the front of out, if it is one.
@@ -243,23 +251,14 @@ pub fn write_string(rest: &[u32], from: usize, out: &mut [u32]) -> usize
     requires { (length rest.now ≤ max_chars) × (from ≤ length rest.now) × (length rest.now ≤ length out.old) }
     ensures { Written rest.now from out.old result out.new }
 {
-    let mut i = from;
     let mut n = 0;
-    loop {
-        if look::holds_at::<Plain>(rest, i) {
-            out[n] = rest[i];
-            i += 1;
+    let _ = each_char(
+        rest,
+        from,
+        &mut |c| {
+            out[n] = c;
             n += 1;
-            continue;
-        }
-        let Ok(piece) = read_piece(rest, i) else {
-            return n;
-        };
-        let Piece::Char(c, end) = piece else {
-            return n;
-        };
-        out[n] = c;
-        i = end;
-        n += 1;
-    }
+        },
+    );
+    n
 }
