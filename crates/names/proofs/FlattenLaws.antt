@@ -121,9 +121,9 @@ module _ {o c : List ℕ} {i from end : ℕ} (p : Passing o i from end c) where
   at_front : from ≡ 0 → take end c ≡ tighten_all (take i symbols) (trim o)
   at_front z = let y : end - 0 ≡ end = omega arith in rw (z, y) at p.cells
 
-  pub passing_bare : i ≡ 0 → from ≡ 0 → list_any is_symbol (take end c) ≡ false → Left o (flat o) (length o) end c
+  pub flat_bare : i ≡ 0 → from ≡ 0 → list_any is_symbol (take end c) ≡ false → Left o (flat o) (length o) end c
   unfolding flat
-  passing_bare h z n =
+  flat_bare h z n =
       let x : take end c ≡ trim o = rw h at (at_front z) in
       left_at (x ∙ sym (none_all symbols (trim o) (none_of_them (trim o) (rw x at n))))
 

@@ -34,7 +34,7 @@ fn next_is(rest: &[u32], i: usize, word: &[u8]) -> bool
     ensures { result ≡ spec.starts_with word.now (prefix rest.now 1 i) }
 {
     match parts::next_part(rest, i) {
-        Some(part) => names::fixed::is(&rest[part.start..part.end], word),
+        Some(part) => names::fixed::is(&rest[part], word),
         None => false,
     }
 }

@@ -39,7 +39,7 @@ fn find_parts(
     scope: Sound,
     scratch: &mut [u32],
 ) -> Option<Found>
-    requires { (from ≤ length rest.now) × (2 * length rest.now ≤ length scratch.old) × Clear scratch.old }
+    requires { (from ≤ length rest.now) × Searchable rest.now scratch.old }
     ensures asked { Asked (flags_of flags) (is_name (sound_scope scope.entry)) (flatten (texts (prefix rest.now m from))) (is_some result) (is_property result) }
     ensures clean { scratch.new ≡ scratch.old }
 {
@@ -66,7 +66,7 @@ fn longest(
     scope: Sound,
     scratch: &mut [u32],
 ) -> Option<Prefix>
-    requires { (from ≤ length rest.now) × (2 * length rest.now ≤ length scratch.old) × Clear scratch.old }
+    requires { (from ≤ length rest.now) × Searchable rest.now scratch.old }
     ensures longest { Longest (flags_of flags) (is_name (sound_scope scope.entry)) rest.now from n (parts_of result) (property_of result) }
     ensures some { IfSome result (λ p. 0 < p.parts) }
     ensures clean { scratch.new ≡ scratch.old }

@@ -51,7 +51,7 @@ fn leading_ones(b: u8) -> usize
     ensures count { result ≡ spec.leading_ones b }
     ensures of_lead { (0xC2 ≤ b) × (b ≤ 0xF4) → (2 ≤ result) × (result ≤ 4) }
 {
-    u8::leading_zeros(!b) as usize
+    b.leading_ones() as usize
 }
 
 fn is_continuing(c: u8) -> bool

@@ -8,7 +8,7 @@ pub loop-m-init : goal.loop-m-init
 loop-m-init c = searching_none _ _ _ _ _ _
 
 pub find_parts-requires : goal.find_parts-requires
-find_parts-requires c = (omega arith, let z = c.loop-m.invariant.same in omega arith, searching_clear c.loop-m.invariant c.requires.2)
+find_parts-requires c = let k = c.requires.1 in let z = c.loop-m.invariant.same in (omega arith, record { room = omega (arith, k.room); clean = searching_clear c.loop-m.invariant k.clean })
 
 pub returns-in-Some-clause-longest : goal.returns-in-Some-clause-longest
 returns-in-Some-clause-longest c = searching_found c.loop-m.invariant (omega arith) (rw c.in-Some.is at c.find_parts.ensures.asked) refl
