@@ -1,13 +1,10 @@
 -- No entry passed, going back, ends the level or has the name.
-use mathlib.Core.Path.{refl, sym, ◌∙◌}
+use mathlib.Core.Path.{sym, ◌∙◌}
 use native.Mathlib.Omega.{arith}
 use Rattle.scope.specs.Viewed.{viewed}
 use Rattle.scope.proofs.SearchLaws.{found, missed}
 use Rattle.lists.proofs.FirstLaws.{seen_none, seen_ends, seen_step}
 use Rattle.lists.proofs.settling.is_seen.Goals as goal
-
-pub loop-j-init : goal.loop-j-init
-loop-j-init g c = refl
 
 pub returns-then-ends_level : goal.returns-then-ends_level
 returns-then-ends_level g c = sym (c.loop-j.invariant ∙ seen_ends _ c.loop-j.j (viewed c.args.e) c.at-before.ensures (omega arith) (omega arith) c.ends_level.ensures c.if-ends_level.true)

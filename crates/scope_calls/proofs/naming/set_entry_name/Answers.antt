@@ -24,9 +24,6 @@ returns-then-s-eq0 c =
     let ok = c.in_ok-scope.ensures.3 in
     (entry-added a.s a.slots.now a.names.now ok a.name.now (sym c.is_broken_name.ensures ∙ c.if-is_broken_name.false) (added_empty a.s a.slots.now a.names.now ok a.name.now variable [] c.if-s-eq0.true), tt, tt, ok)
 
-pub left_beside-requires : goal.left_beside-requires
-left_beside-requires c = c.before_context-from.ensures.0
-
 pub overflow_add-from : goal.overflow_add-from
 overflow_add-from c =
     let a = c.args in

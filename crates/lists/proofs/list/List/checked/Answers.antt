@@ -4,9 +4,6 @@ use native.Mathlib.Omega.{arith}
 use Rattle.scope.proofs.ListLaws.{outside_end, outside_here, outside_more}
 use Rattle.lists.proofs.list.List.checked.Goals as goal
 
-pub loop-row-init : goal.loop-row-init
-loop-row-init c = refl
-
 pub returns-then-cells-end : goal.returns-then-cells-end
 returns-then-cells-end c = (refl, c.loop-row.invariant ∙ outside_here c.args.cells.now c.args.rows.now c.loop-row.row-index (omega arith) (omega arith))
 
