@@ -89,6 +89,14 @@ part-take c from end h =
     let d : drop from (take end c) ≡ part c from end = rw (z, y) at (part-drop c 0 end from) in
     rw (length-take-le end c h, d) (take_all (end - from) (part c from end) (omega (arith, part_length c from end h)))
 
+-- The trimmed cells are flat as they stand if no cell of them is a symbol.
+bare_same : (o : List ℕ) {ts : List ℕ} → ts ≡ trim o → list_any is_symbol ts ≡ false → ts ≡ flat o
+unfolding flat
+bare_same o x n = x ∙ sym (none_all symbols (trim o) (none_of_them (trim o) (rw x at n)))
+
+pub flat_bare : {o : List ℕ} {n e : ℕ} → n ≤ length o → e ≤ n → take e o ≡ trim (take n o) → list_any is_symbol (take e o) ≡ false → Left o (flat (take n o)) n e o
+flat_bare {o} {n} {e} l m t b = let y = bare_same (take n o) t b in record { size = sym (ap length (sym y) ∙ length-take-le e o (omega arith)); room = m; front = y; behind = refl; same = refl }
+
 module _ {o c : List ℕ} {i from end : ℕ} (p : Passing o i from end c) where
   -- The cells up to the end, taken apart, are passed over once more.
   pub passing_more : {k : ℕ} {t : List ℕ} → i < 6 → Tightened (get_or symbols i 0) (take end c) from (length (take end c)) k t → Passing o (i + 1) 0 k (t ++ drop end c)
@@ -121,11 +129,8 @@ module _ {o c : List ℕ} {i from end : ℕ} (p : Passing o i from end c) where
   at_front : from ≡ 0 → take end c ≡ tighten_all (take i symbols) (trim o)
   at_front z = let y : end - 0 ≡ end = omega arith in rw (z, y) at p.cells
 
-  pub flat_bare : i ≡ 0 → from ≡ 0 → list_any is_symbol (take end c) ≡ false → Left o (flat o) (length o) end c
-  unfolding flat
-  flat_bare h z n =
-      let x : take end c ≡ trim o = rw h at (at_front z) in
-      left_at (x ∙ sym (none_all symbols (trim o) (none_of_them (trim o) (rw x at n))))
+  pub passing_bare : i ≡ 0 → from ≡ 0 → list_any is_symbol (take end c) ≡ false → Left o (flat o) (length o) end c
+  passing_bare h z n = left_at (bare_same o (rw h at (at_front z)) n)
 
   pub passing_all : 6 ≤ i → Left o (flat o) (length o) end c
   unfolding flat
