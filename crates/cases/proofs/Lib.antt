@@ -1,4 +1,3 @@
-pub mod LineLaws
 pub mod LaidLaws
 pub mod FieldLaws
 pub mod PointLaws

@@ -1,4 +1,4 @@
--- The first place of a byte ends a field or a line.
+-- The first space ends a field.
 use Rattle.std.proofs.Common.{◌≡◌, ℕ, suc, ◌+◌, ◌-◌, ◌<◌, ◌≤◌, min, Bool, true, false, not, cond, List, [], ◌∷◌, length, take, drop, add-zero, refl, ap, ◌∙◌, arith, length-drop, get_or, get_or-drop}
 use Rattle.std.specs.Prelude.{Option, Some, None}
 use Rattle.std.specs.Option.{option_eq, unwrap_or}
@@ -14,7 +14,6 @@ use Rattle.reading.specs.Span.{span, past}
 use Rattle.reading.proofs.Cell.{cell-drop}
 use Rattle.reading.proofs.Test.{by_test}
 use Rattle.names.proofs.SameLaws.{eqb_sym}
-use Rattle.cases.specs.Lines.{in_line, line_end}
 use Rattle.cases.specs.Fields.{to_next, next_field}
 
 module _ (p : ℕ → Bool) where
@@ -25,9 +24,6 @@ module _ (p : ℕ → Bool) where
   pub missed : (xs : List ℕ) → None ≡ position p xs → length xs ≤ position_or_len p xs
   missed xs e = by_test (λ (o : Option ℕ). None ≡ o → length xs ≤ position_or_len p xs) (ltb (position_or_len p xs) (length xs)) (λ t e. absurd (cc)) (λ f e. ltb-false (position_or_len p xs) (length xs) f) e
 
-  pub found_or : (xs : List ℕ) → unwrap_or (position p xs) (length xs) ≡ position_or_len p xs
-  found_or xs = grind (arith, common_steps, prefix_len-le-length (λ x. not (p x)) xs)
-
 next_is : (xs : List ℕ) → to_next xs ≡ min (position_or_len (λ x. eqb x 0x20) xs + 1) (length xs)
 unfolding to_next
 next_is [] = omega arith
@@ -35,26 +31,12 @@ next_is (x ∷ xs) =
     elim (eqb x 0x20) as (λ t. cond t 1 (suc (to_next xs)) ≡ min (cond (not t) (1 + prefix_len (λ c. not (eqb c 0x20)) xs) 0 + 1) (suc (length xs)))
     [ true ↦ omega arith | false ↦ omega (arith, next_is xs) ]
 
-line_is : (xs : List ℕ) → position_or_len (λ x. eqb x 0x0a) xs ≡ span in_line xs
-line_is [] = refl
-line_is (x ∷ xs) = ap (λ n. cond (not (eqb x 0x0a)) n 0) (omega (arith, line_is xs))
-
 module _ (l : List ℕ) (i : ℕ) {r : List ℕ} (e : r ≡ drop i l) where
   pub next_found : {n : ℕ} → Some n ≡ position (λ x. eqb x 0x20) r → i + (n + 1) ≡ next_field l i
   next_found {n} g = let f = found (λ x. eqb x 0x20) (drop i l) (rw e at g) in omega (arith, f.0, f.1, next_is (drop i l))
 
   pub next_missed : i ≤ length l → None ≡ position (λ x. eqb x 0x20) r → length l ≡ next_field l i
   next_missed h g = omega (arith, missed (λ x. eqb x 0x20) (drop i l) (rw e at g), next_is (drop i l), length-drop i l)
-
-module _ (l : List ℕ) (i : ℕ) (h : i ≤ length l) where
-  rest : take (length l - i) (drop i l) ≡ drop i l
-  rest = take_all (length l - i) (drop i l) (omega (arith, length-drop i l))
-
-  pub line_found : {o : Option ℕ} → o ≡ position (λ x. eqb x 0x0a) (take (length l - i) (drop i l)) → {n : ℕ} → n ≡ unwrap_or o (length (take (length l - i) (drop i l))) → (i + n ≡ line_end l i) × (i + n ≤ length l)
-  unfolding past
-  line_found {o} e {n} d =
-      let z : n ≡ position_or_len (λ x. eqb x 0x0a) (drop i l) = d ∙ rw (e, rest) (found_or (λ x. eqb x 0x0a) (drop i l)) in
-      (omega (arith, z, line_is (drop i l)), omega (arith, z, length-drop i l, prefix_len-le-length (λ x. not (eqb x 0x0a)) (drop i l)))
 
 -- The first byte of what is left is compared with another.
 first_is : (b : ℕ) (r : List ℕ) → option_eq eqb (slice_get r 0) (Some b) ≡ is b (cell_at r 0)

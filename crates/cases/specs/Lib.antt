@@ -1,4 +1,3 @@
-pub mod Lines
 pub mod Fields
 pub mod Laid
 pub mod Entries

@@ -1,19 +1,26 @@
 // The fields of a line, parted by single spaces: decimal numbers, and texts as code points in hexadecimal.
-ghost use Rattle.std.specs.Prelude.{◌≡◌, cond, ◌+◌, ◌≤◌, length, drop};
+ghost use Rattle.std.specs.Prelude.{◌≡◌, ◌==◌, cond, ◌+◌, ◌≤◌, length, drop};
+ghost use Rattle.std.specs.List.{position};
 ghost use Rattle.reading.specs.Look.{cell_at};
 ghost use Rattle.reading.specs.Cells as cells;
 ghost use Rattle.cases.specs.Laid.{Lays};
 ghost use Rattle.cases.specs.Fields.{next_field, number_at, digits_end, decimal_at, decimal_end, times_at, times_end, code_point, code_point_end, code_points, code_points_end, cells_at, cells_end};
 
-use crate::places;
 use text::hex;
 
-// A line, and the place up to which it is read.
+// A line, and the place up to which it is read: the definitions go by places in a line.
 #[derive(Clone, Copy)]
 pub struct Fields<'a> {
     pub line: &'a [u8],
     pub at: usize,
     pub ghost within: { at ≤ length line.now },
+}
+
+// The first place of a byte.
+fn place_of(b: u8, bytes: &[u8]) -> Option<usize>
+    ensures { result ≡ position (λ x. x == b) bytes.now }
+{
+    bytes.iter().position(|x| *x == b)
 }
 
 // Numbers of a case stay below this.
@@ -37,7 +44,7 @@ impl<'a> Fields<'a> {
     pub fn next_field(&mut self)
         ensures { (self.new.line ≡ self.old.line) × (self.new.at ≡ next_field self.old.line.now self.old.at) }
     {
-        match places::place_of(b' ', self.rest()) {
+        match place_of(b' ', self.rest()) {
             Some(n) => self.at += n + 1,
             None => self.at = self.line.len(),
         }
