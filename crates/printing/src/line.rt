@@ -4,10 +4,13 @@ ghost use Rattle.reading.specs.Codes.{codes};
 ghost use Rattle.runs.specs.Record.{item_of, unpack};
 ghost use Rattle.runs.specs.Print as spec;
 ghost use Rattle.printing.specs.Room.{max_printed};
+ghost use Rattle.printing.specs.Field.{record_of};
 
+use crate::number;
 use crate::output::Output;
-use crate::{number, value};
+use crate::value::Field;
 use runs::item::{Item, Row};
+use runs::record::Record;
 use text::chars::Char;
 
 // Writes a decimal number and a space.
@@ -39,18 +42,18 @@ fn put_line(n: usize, row: Row, store: &[u32], out: &mut Output)
     put_type(row[Item::REFUSED], row[Item::NUMBER], out);
     put_field(row[Item::POSITION] as usize, out);
     put_field(row[Item::REACH] as usize, out);
-    value::put_value(row, store, out);
+    Field::of(row, store).put(out);
     out.push(Char::LINE_FEED);
 }
 
-// Writes a line for each row.
+// Writes a line for each item.
 // Ruled out, among others: items counted from 1.
-pub fn put_lines(rows: &[Row], store: &[u32], out: &mut Output)
-    requires { length out.old + length (spec.lines 0 (unpack (record { rows = rows.now; store = store.now }))) ≤ max_printed }
-    ensures { out.new ≡ out.old ++ spec.lines 0 (unpack (record { rows = rows.now; store = store.now })) }
+pub fn put_lines(all: Record, out: &mut Output)
+    requires { length out.old + length (spec.lines 0 (unpack (record_of all))) ≤ max_printed }
+    ensures { out.new ≡ out.old ++ spec.lines 0 (unpack (record_of all.entry)) }
 {
-    for (i, row) in rows.iter().enumerate() {
-        put_line(i, *row, store, out);
+    for (i, row) in all.rows.iter().enumerate() {
+        put_line(i, *row, all.store, out);
     }
 }
 

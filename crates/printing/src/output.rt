@@ -1,4 +1,4 @@
-// The characters printed so far.
+// The characters printed so far. `Display` promises its text only where writing succeeds; this has room for all, and cannot fail.
 ghost use Rattle.std.specs.Prelude.{◌≡◌, [], ◌∷◌, ◌++◌, ◌+◌, ◌≤◌, ◌<◌, length, take, List, ℕ};
 ghost use Rattle.printing.specs.Room.{max_printed};
 

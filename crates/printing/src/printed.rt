@@ -15,6 +15,7 @@ use crate::print::MAX_INPUT;
 use lexer::flags::Flags;
 use lexer::token_type::TokenType;
 use runs::item::Item;
+use runs::record::Record;
 use runs::room::Room;
 use scope::lent::Lent;
 use scope::scope::{Scope, Slot};
@@ -42,7 +43,11 @@ fn put_record(text: &[u32], out: &mut Output)
     };
     let start = u32::from(TokenType::StartExpression);
     if let Ok(counts) = runs::run::run(text, start, Flags::default(), scope, &mut room) {
-        line::put_lines(&rows[..counts.items], &store, out);
+        let record = Record {
+            rows: &rows[..counts.items],
+            store: &store,
+        };
+        line::put_lines(record, out);
     }
 }
 

@@ -1,11 +1,11 @@
 // The value field of an item, from its row and the store of values.
-ghost use Rattle.std.specs.Prelude.{◌≡◌, cond, [], ◌++◌, ◌+◌, ◌≤◌, eqb, length};
+ghost use Rattle.std.specs.Prelude.{◌≡◌, [], ◌++◌, ◌+◌, ◌≤◌, length};
 ghost use Rattle.reading.specs.Cells.{is_one_of};
-ghost use Rattle.reading.specs.Codes.{codes};
 ghost use Rattle.lexer.specs.Read.{text_types};
 ghost use Rattle.runs.specs.Record.{item_of};
 ghost use Rattle.runs.specs.Print as spec;
 ghost use Rattle.printing.specs.Room.{max_printed};
+ghost use Rattle.printing.specs.Field.{number_text, field_text};
 
 use crate::number;
 use crate::output::Output;
@@ -37,43 +37,6 @@ fn put_code_points(value: &[u32], out: &mut Output)
     }
 }
 
-// Writes a name or a string.
-fn put_text(value: &[u32], out: &mut Output)
-    requires { length out.old + length (codes "=" ++ spec.joined_by_comma value.now) ≤ max_printed }
-    ensures { out.new ≡ out.old ++ (codes "=" ++ spec.joined_by_comma value.now) }
-{
-    out.push(Char::EQUAL);
-    put_code_points(value, out);
-}
-
-// Writes a number: digits before, after, sign, exponent.
-fn put_numeric(value: &[u32], before: usize, after: usize, extra: u32, out: &mut Output)
-    requires { length out.old + length (spec.number_field before after extra value.now) ≤ max_printed }
-    ensures { out.new ≡ out.old ++ spec.number_field before after extra value.now }
-{
-    let a = before.min(value.len());
-    let b = a + after.min(value.len() - a);
-    out.append(&value[..a]);
-    out.push(Char::SLASH);
-    out.append(&value[a..b]);
-    out.push(Char::SLASH);
-    out.push(if extra == 1 { Char::MINUS } else { Char::PLUS });
-    out.push(Char::SLASH);
-    out.append(&value[b..]);
-}
-
-// Writes a Boolean.
-fn put_truth(extra: u32, out: &mut Output)
-    requires { length out.old + length (spec.truth_field extra) ≤ max_printed }
-    ensures { out.new ≡ out.old ++ spec.truth_field extra }
-{
-    if extra == 1 {
-        out.append(&TRUE);
-    } else {
-        out.append(&FALSE);
-    }
-}
-
 // Whether a refusal carries a character or a value.
 fn has_carry(n: u32) -> bool
     ensures { result ≡ spec.has_carry n }
@@ -81,18 +44,6 @@ fn has_carry(n: u32) -> bool
     n == u32::from(Refusal::NoHexDigit)
         || n == u32::from(Refusal::NoScalarValue)
         || n == u32::from(Refusal::NoSecondHalf)
-}
-
-// Writes a refusal's carry.
-fn put_carry(n: u32, extra: u32, out: &mut Output)
-    requires { length out.old + length (spec.carry_field n extra) ≤ max_printed }
-    ensures { out.new ≡ out.old ++ spec.carry_field n extra }
-{
-    if has_carry(n) {
-        number::put_number(16, extra as usize, out);
-    } else {
-        out.push(Char::MINUS);
-    }
 }
 
 // The types whose value is a name or a string.
@@ -114,27 +65,97 @@ fn value_of(row: Row, store: &[u32]) -> &[u32]
     &store[a..z]
 }
 
-// Writes the value field of an item.
-// Ruled out, among others: a name printed as `-`; the digits of a number without its sign.
-pub fn put_value(row: Row, store: &[u32], out: &mut Output)
-    requires { length out.old + length (spec.value_field (item_of store.now row)) ≤ max_printed }
-    ensures { out.new ≡ out.old ++ spec.value_field (item_of store.now row) }
-{
-    let n = row[Item::NUMBER];
-    let extra = row[Item::EXTRA];
-    if row[Item::REFUSED] == 1 {
-        return put_carry(n, extra, out);
+// A number's digits before the point, behind it and of the exponent, and whether the exponent has a minus.
+#[derive(Clone, Copy)]
+pub struct Number<'a> {
+    before: &'a [u32],
+    after: &'a [u32],
+    minus: bool,
+    exponent: &'a [u32],
+}
+
+impl<'a> Number<'a> {
+    // The digits in a value with so many before the point and behind it; the sign 1 is a minus.
+    fn new(value: &'a [u32], before: usize, after: usize, sign: u32) -> Number<'a>
+        ensures { number_text result ≡ spec.number_field before after sign value.now }
+    {
+        let (before, rest) = value.split_at(before.min(value.len()));
+        let (after, exponent) = rest.split_at(after.min(rest.len()));
+        Number {
+            before,
+            after,
+            minus: sign == 1,
+            exponent,
+        }
     }
-    let value = value_of(row, store);
-    if n == u32::from(TokenType::Numeric) {
-        let before = row[Item::BEFORE] as usize;
-        let after = row[Item::AFTER] as usize;
-        put_numeric(value, before, after, extra, out);
-    } else if is_text(n) {
-        put_text(value, out);
-    } else if n == u32::from(TokenType::Boolean) {
-        put_truth(extra, out);
-    } else {
-        out.push(Char::MINUS);
+
+    fn put(self, out: &mut Output)
+        requires { length out.old + length (number_text self) ≤ max_printed }
+        ensures { out.new ≡ out.old ++ number_text self.entry }
+    {
+        out.append(self.before);
+        out.push(Char::SLASH);
+        out.append(self.after);
+        out.push(Char::SLASH);
+        out.push(if self.minus { Char::MINUS } else { Char::PLUS });
+        out.push(Char::SLASH);
+        out.append(self.exponent);
+    }
+}
+
+// What the value field of an item shows.
+#[derive(Clone, Copy)]
+pub enum Field<'a> {
+    Nothing,
+    Carry(u32),
+    Number(Number<'a>),
+    Text(&'a [u32]),
+    Truth(bool),
+}
+
+impl<'a> Field<'a> {
+    // Ruled out, among others: a name shown as nothing; a number without its sign.
+    pub fn of(row: Row, store: &'a [u32]) -> Field<'a>
+        ensures { field_text result ≡ spec.value_field (item_of store.now row) }
+    {
+        let n = row[Item::NUMBER];
+        let extra = row[Item::EXTRA];
+        if row[Item::REFUSED] == 1 {
+            if has_carry(n) {
+                return Field::Carry(extra);
+            }
+            return Field::Nothing;
+        }
+        let value = value_of(row, store);
+        if n == u32::from(TokenType::Numeric) {
+            let before = row[Item::BEFORE] as usize;
+            let after = row[Item::AFTER] as usize;
+            return Field::Number(Number::new(value, before, after, extra));
+        }
+        if is_text(n) {
+            return Field::Text(value);
+        }
+        if n == u32::from(TokenType::Boolean) {
+            return Field::Truth(extra == 1);
+        }
+        Field::Nothing
+    }
+
+    // Writes the field: nothing as a hyphen, texts as `=` and code points.
+    pub fn put(self, out: &mut Output)
+        requires { length out.old + length (field_text self) ≤ max_printed }
+        ensures { out.new ≡ out.old ++ field_text self.entry }
+    {
+        match self {
+            Field::Nothing => out.push(Char::MINUS),
+            Field::Carry(c) => number::put_number(16, c as usize, out),
+            Field::Number(number) => number.put(out),
+            Field::Text(value) => {
+                out.push(Char::EQUAL);
+                put_code_points(value, out);
+            }
+            Field::Truth(true) => out.append(&TRUE),
+            Field::Truth(false) => out.append(&FALSE),
+        }
     }
 }

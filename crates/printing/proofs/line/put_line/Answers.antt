@@ -22,12 +22,12 @@ put_field-requires-3 c =
     let a = c.args in
     omega (arith, line-size a.n (item_of a.store.now a.row), ap length c.put_field.ensures, ap length c.put_type.ensures, ap length c.put_field-2.ensures, length-append {A = ℕ})
 
-pub put_value-requires : goal.put_value-requires
-put_value-requires c =
+pub put-requires : goal.put-requires
+put-requires c =
     let a = c.args in
-    omega (arith, line-size a.n (item_of a.store.now a.row), ap length c.put_field.ensures, ap length c.put_type.ensures, ap length c.put_field-2.ensures, ap length c.put_field-3.ensures, length-append {A = ℕ})
+    omega (arith, line-size a.n (item_of a.store.now a.row), ap length c.put_field.ensures, ap length c.put_type.ensures, ap length c.put_field-2.ensures, ap length c.put_field-3.ensures, ap length c.of.ensures, length-append {A = ℕ})
 
 pub push-requires : goal.push-requires
 push-requires c =
     let a = c.args in
-    omega (arith, line-size a.n (item_of a.store.now a.row), ap length c.put_field.ensures, ap length c.put_type.ensures, ap length c.put_field-2.ensures, ap length c.put_field-3.ensures, ap length c.put_value.ensures, length-append {A = ℕ})
+    omega (arith, line-size a.n (item_of a.store.now a.row), ap length c.put_field.ensures, ap length c.put_type.ensures, ap length c.put_field-2.ensures, ap length c.put_field-3.ensures, ap length c.of.ensures, ap length c.put.ensures, length-append {A = ℕ})
