@@ -6,7 +6,7 @@ use lexer::flags::Flags;
 use lexer::token_type::TokenType;
 use records::page;
 use records::stored::Stored;
-use runs::item::Item;
+use runs::item::{Item, Row};
 use runs::room::Room;
 use scope::lent::Lent;
 use scope::scope::{Scope, Slot};
@@ -39,7 +39,7 @@ fn print_refusal(rt: &impl Print, n: u32, place: usize) -> io::Result<()> {
 }
 
 // The items of the rows; more than a page holds are 9.
-fn print_rows(rt: &impl Print, rows: &[[u32; Item::NUMBERS]]) -> io::Result<()> {
+fn print_rows(rt: &impl Print, rows: &[Row]) -> io::Result<()> {
     let page = match page::page_of(rows) {
         Ok(page) => page,
         Err(refusal) => return print_refusal(rt, u32::from(refusal), 0),

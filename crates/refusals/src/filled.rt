@@ -3,7 +3,7 @@ ghost use Rattle.std.specs.Prelude.{◌≡◌, ◌==◌, drop};
 ghost use Rattle.std.specs.List.{list_all};
 ghost use Rattle.refusals.specs.Filled.{same_rows};
 
-use runs::item::Item;
+use runs::item::Row;
 
 // Whether all cells from a place on are this number.
 pub fn is_filled(cells: &[u32], from: usize, x: u32) -> bool
@@ -13,7 +13,7 @@ pub fn is_filled(cells: &[u32], from: usize, x: u32) -> bool
 }
 
 // Whether all cells of all rows from a place on are.
-pub fn are_filled(rows: &[[u32; Item::NUMBERS]], from: usize, x: u32) -> bool
+pub fn are_filled(rows: &[Row], from: usize, x: u32) -> bool
     ensures { result ≡ list_all (list_all (λ c. c == x)) (drop from rows.now) }
 {
     rows.iter().skip(from).all(|row| is_filled(row, 0, x))

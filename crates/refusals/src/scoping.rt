@@ -40,16 +40,11 @@ impl Held {
         }
     }
 
-    fn push(&mut self, _name: &[u32], list: List, cells: &[u32]) -> Result<Scope, Refusal> {
+    fn push(&mut self, list: List, cells: &[u32]) -> Result<Scope, Refusal> {
         push::push(self.counts, &mut self.slots, &mut self.names, list, cells)
     }
 
-    fn set_entry_name(
-        &mut self,
-        name: &[u32],
-        _list: List,
-        _cells: &[u32],
-    ) -> Result<Scope, Refusal> {
+    fn set_entry_name(&mut self, name: &[u32]) -> Result<Scope, Refusal> {
         naming::set_entry_name(self.counts, &mut self.slots, &mut self.names, name)
     }
 
@@ -64,18 +59,13 @@ impl Held {
         )
     }
 
-    fn add_parsed_name(
-        &mut self,
-        name: &[u32],
-        _list: List,
-        _cells: &[u32],
-    ) -> Result<Scope, Refusal> {
+    fn add_parsed_name(&mut self, name: &[u32]) -> Result<Scope, Refusal> {
         parsed::add_parsed_name(self.counts, &mut self.slots, &mut self.names, name)
     }
 
     // Holds the entries of a list.
     fn hold_entries(&mut self, list: List, cells: &[u32]) {
-        if let Ok(counts) = self.push(&[], list, cells) {
+        if let Ok(counts) = self.push(list, cells) {
             self.counts = counts;
         }
     }
@@ -83,24 +73,21 @@ impl Held {
     // Holds each cell as a parsed name.
     fn hold_parsed(&mut self, _list: List, cells: &[u32]) {
         for cell in cells {
-            if let Ok(counts) = self.add_parsed_name(&[*cell], &[], &[]) {
+            if let Ok(counts) = self.add_parsed_name(&[*cell]) {
                 self.counts = counts;
             }
         }
     }
 }
 
+// Contexts, entries or parsed names held, entries of a list, depth of the first, characters of a name.
+type Trial = (usize, usize, usize, u32, usize);
+
 // Calls with a name of so many times `a` and a list of so many entries, the first of this depth, on a scope that holds so much and is said to have so many contexts.
 fn trials<
     H: Fn(&mut Held, List, &[u32]),
     C: Fn(&mut Held, &[u32], List, &[u32]) -> Result<Scope, Refusal>,
->(
-    rt: &impl Print,
-    words: &str,
-    hold: &H,
-    call: &C,
-    all: &[(usize, usize, usize, u32, usize)],
-) -> io::Result<()>
+>(rt: &impl Print, words: &str, hold: &H, call: &C, all: &[Trial]) -> io::Result<()>
     requires holds { H.IsAlwaysCallable hold.now }
     requires calls { C.IsAlwaysCallable call.now }
 {
@@ -158,7 +145,7 @@ fn trial<C: Fn(Lent) -> Result<Scope, Refusal>>(
 }
 
 // 01: 10, then 11.
-static PUSHED: [(usize, usize, usize, u32, usize); 6] = [
+static PUSHED: [Trial; 6] = [
     (33, 0, 1, 0, 0),
     (1, 0, 1, 1, 0),
     (32, 0, 1, 1, 0),
@@ -167,21 +154,21 @@ static PUSHED: [(usize, usize, usize, u32, usize); 6] = [
     (2, 512, 1, 0, 0),
 ];
 
-static NAMED: [(usize, usize, usize, u32, usize); 4] = [
+static NAMED: [Trial; 4] = [
     (33, 0, 0, 0, 1),
     (1, 0, 0, 0, 129),
     (2, 512, 0, 0, 129),
     (2, 512, 0, 0, 1),
 ];
 
-static CONTEXTS: [(usize, usize, usize, u32, usize); 4] = [
+static CONTEXTS: [Trial; 4] = [
     (33, 0, 1, 0, 1),
     (1, 0, 1, 0, 129),
     (1, 0, 512, 1, 1),
     (1, 0, 512, 0, 1),
 ];
 
-static PARSED: [(usize, usize, usize, u32, usize); 4] = [
+static PARSED: [Trial; 4] = [
     (33, 0, 0, 0, 1),
     (1, 0, 0, 0, 129),
     (1, 256, 0, 0, 129),
@@ -195,12 +182,18 @@ pub fn tried(rt: &impl Print) -> io::Result<()> {
     trial(rt, "push_default", &stack::push_default, 33)?;
     trial(rt, "push_default", &stack::push_default, 32)?;
     trial(rt, "pop", &stack::pop, 33)?;
-    trials(rt, "push", &Held::hold_entries, &Held::push, &PUSHED)?;
+    trials(
+        rt,
+        "push",
+        &Held::hold_entries,
+        &|held: &mut Held, _: &[u32], list: List, cells: &[u32]| held.push(list, cells),
+        &PUSHED,
+    )?;
     trials(
         rt,
         "set_entry_name",
         &Held::hold_entries,
-        &Held::set_entry_name,
+        &|held: &mut Held, name: &[u32], _: List, _: &[u32]| held.set_entry_name(name),
         &NAMED,
     )?;
     trials(
@@ -214,7 +207,7 @@ pub fn tried(rt: &impl Print) -> io::Result<()> {
         rt,
         "add_parsed_name",
         &Held::hold_parsed,
-        &Held::add_parsed_name,
+        &|held: &mut Held, name: &[u32], _: List, _: &[u32]| held.add_parsed_name(name),
         &PARSED,
     )
 }

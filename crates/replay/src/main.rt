@@ -5,12 +5,13 @@
 
 mod record; // record.rt: a record in the text form
 
-use crate::record::Record;
+use crate::record::TextForm;
 use cases::calls;
 use cases::fields::Fields;
 use lexer::flags::Flags;
 use runs::call::Counts;
 use runs::item::Item;
+use runs::record::Record;
 use runs::room::Room;
 use scope::lent::Lent;
 use scope::scope::{Scope, Slot};
@@ -45,10 +46,10 @@ fn print_case(rt: &impl Print, line: &str) -> io::Result<()> {
     match runs::run::run(&text[..n], start_type, flags, scope, &mut room) {
         Ok(Counts { items, cells }) => {
             let Room { rows, store, .. } = room;
-            let record = Record {
+            let record = TextForm(Record {
                 rows: &rows[..items],
                 store: &store[..cells],
-            };
+            });
             println!(rt; "{line} {record}")
         }
         Err(refusal) => {

@@ -3,19 +3,17 @@ ghost use Rattle.std.specs.Prelude.{◌≡◌, ◌==◌, ◌<◌, ◌≤◌, len
 ghost use Rattle.std.specs.List.{take_while};
 ghost use Rattle.replay.specs.Printed as spec;
 
-use runs::item::Item;
+use runs::item::{Item, Row};
+use runs::record::Record;
 use std::fmt;
 use text::refusal::Refusal;
 
-// The rows and the value store of a record.
+// A record that is printed in the text form.
 #[derive(Clone, Copy)]
-pub struct Record<'a> {
-    pub rows: &'a [[u32; Item::NUMBERS]],
-    pub store: &'a [u32],
-}
+pub struct TextForm<'a>(pub Record<'a>);
 
 // 1 where the Rust panicked in the last item, which 01 refuses with 7 or 8.
-fn panicked(last: [u32; Item::NUMBERS]) -> u32
+fn panicked(last: Row) -> u32
     ensures { result ≡ spec.panicked last }
 {
     let refused = last[Item::REFUSED] != 0;
@@ -64,24 +62,25 @@ impl fmt::Display for Piece {
     }
 }
 
-impl fmt::Display for Record<'_> {
+impl fmt::Display for TextForm<'_> {
     fn fmt<W: fmt::Write>(&self, f: &mut fmt::Formatter<W>) -> fmt::Result {
-        let Some(last) = self.rows.last() else {
+        let Record { rows, store } = self.0;
+        let Some(last) = rows.last() else {
             return Ok(());
         };
         let end = panicked(*last);
-        let count = self.rows.len();
+        let count = rows.len();
         write!(f, "{end} {count}")?;
-        for row in self.rows {
+        for row in rows {
             for n in row {
                 write!(f, " {n}")?;
             }
         }
-        if self.store.is_empty() {
+        if store.is_empty() {
             return write!(f, " -");
         }
         write!(f, " ")?;
-        let mut rest = self.store;
+        let mut rest = store;
         while !rest.is_empty() {
             let piece = Piece::first_of(rest);
             write!(f, "{piece}")?;
