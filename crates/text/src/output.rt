@@ -19,13 +19,19 @@ impl<'a> Output<'a> {
         self.len += 1;
     }
 
-    // Writes the cells.
+    // Writes the cells. Most pieces of a number are empty or one cell, which a copy takes more steps for.
     pub fn append(&mut self, cells: &[u32])
         requires { self.old.len + length cells.now ≤ length self.old.cells.now }
         ensures { Adds self.old cells.now self.new }
     {
-        let end = self.len + cells.len();
-        self.cells[self.len..end].copy_from_slice(cells);
-        self.len = end;
+        match cells {
+            [] => {}
+            [c] => self.push(*c),
+            _ => {
+                let end = self.len + cells.len();
+                self.cells[self.len..end].copy_from_slice(cells);
+                self.len = end;
+            }
+        }
     }
 }
