@@ -147,12 +147,7 @@ impl TokenType {
         TokenType::Dot,
     ];
 
-    pub const YY_EOF: u32 = TokenType::YyEof as u32;
-
-    pub const YY_ERROR: u32 = TokenType::YyError as u32;
-
-    pub const YY_UNDEF: u32 = TokenType::YyUndef as u32;
-
+    // The numbers of the start types, which a match tells apart.
     pub const START_EXPRESSION: u32 = TokenType::StartExpression as u32;
 
     pub const START_BOXED_EXPRESSION: u32 = TokenType::StartBoxedExpression as u32;
@@ -170,108 +165,6 @@ impl TokenType {
     pub const START_SIMPLE_VALUE: u32 = TokenType::StartSimpleValue as u32;
 
     pub const START_RANGE_LITERAL: u32 = TokenType::StartRangeLiteral as u32;
-
-    pub const AT: u32 = TokenType::At as u32;
-
-    pub const NOT: u32 = TokenType::Not as u32;
-
-    pub const COLON: u32 = TokenType::Colon as u32;
-
-    pub const COMMA: u32 = TokenType::Comma as u32;
-
-    pub const EVERY: u32 = TokenType::Every as u32;
-
-    pub const FOR: u32 = TokenType::For as u32;
-
-    pub const LEFT_BRACE: u32 = TokenType::LeftBrace as u32;
-
-    pub const NULL: u32 = TokenType::Null as u32;
-
-    pub const RIGHT_ARROW: u32 = TokenType::RightArrow as u32;
-
-    pub const OF: u32 = TokenType::Of as u32;
-
-    pub const LIST: u32 = TokenType::List as u32;
-
-    pub const RANGE: u32 = TokenType::Range as u32;
-
-    pub const CONTEXT: u32 = TokenType::Context as u32;
-
-    pub const THEN: u32 = TokenType::Then as u32;
-
-    pub const FUNCTION: u32 = TokenType::Function as u32;
-
-    pub const EXTERNAL: u32 = TokenType::External as u32;
-
-    pub const IF: u32 = TokenType::If as u32;
-
-    pub const RIGHT_BRACE: u32 = TokenType::RightBrace as u32;
-
-    pub const RETURN: u32 = TokenType::Return as u32;
-
-    pub const SOME: u32 = TokenType::Some as u32;
-
-    pub const NUMERIC: u32 = TokenType::Numeric as u32;
-
-    pub const STRING: u32 = TokenType::String as u32;
-
-    pub const BOOLEAN: u32 = TokenType::Boolean as u32;
-
-    pub const SATISFIES: u32 = TokenType::Satisfies as u32;
-
-    pub const ELSE: u32 = TokenType::Else as u32;
-
-    pub const OR: u32 = TokenType::Or as u32;
-
-    pub const AND: u32 = TokenType::And as u32;
-
-    pub const EQ: u32 = TokenType::Eq as u32;
-
-    pub const NE: u32 = TokenType::Ne as u32;
-
-    pub const LT: u32 = TokenType::Lt as u32;
-
-    pub const LE: u32 = TokenType::Le as u32;
-
-    pub const GT: u32 = TokenType::Gt as u32;
-
-    pub const GE: u32 = TokenType::Ge as u32;
-
-    pub const BETWEEN: u32 = TokenType::Between as u32;
-
-    pub const BETWEEN_AND: u32 = TokenType::BetweenAnd as u32;
-
-    pub const IN: u32 = TokenType::In as u32;
-
-    pub const MINUS: u32 = TokenType::Minus as u32;
-
-    pub const PLUS: u32 = TokenType::Plus as u32;
-
-    pub const MUL: u32 = TokenType::Mul as u32;
-
-    pub const DIV: u32 = TokenType::Div as u32;
-
-    pub const EXP: u32 = TokenType::Exp as u32;
-
-    pub const INSTANCE: u32 = TokenType::Instance as u32;
-
-    pub const NAME: u32 = TokenType::Name as u32;
-
-    pub const NAME_DATE_TIME: u32 = TokenType::NameDateTime as u32;
-
-    pub const BUILT_IN_TYPE_NAME: u32 = TokenType::BuiltInTypeName as u32;
-
-    pub const LEFT_PAREN: u32 = TokenType::LeftParen as u32;
-
-    pub const RIGHT_PAREN: u32 = TokenType::RightParen as u32;
-
-    pub const LEFT_BRACKET: u32 = TokenType::LeftBracket as u32;
-
-    pub const RIGHT_BRACKET: u32 = TokenType::RightBracket as u32;
-
-    pub const ELLIPSIS: u32 = TokenType::Ellipsis as u32;
-
-    pub const DOT: u32 = TokenType::Dot as u32;
 }
 
 // The number of every token type.

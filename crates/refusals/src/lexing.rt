@@ -21,7 +21,7 @@ fn state(position: usize, pending: bool) -> Lexer {
     Lexer {
         position,
         flags: Flags::from_bits(Flags::ALL),
-        due: pending.then_some(TokenType::START_EXPRESSION),
+        due: pending.then_some(TokenType::StartExpression as u32),
     }
 }
 

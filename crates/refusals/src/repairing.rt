@@ -41,10 +41,22 @@ impl Old {
 // The record of `1 a`.
 static ONE_A: Old = Old {
     rows: [
-        [0, TokenType::START_EXPRESSION, 0, 0, 0, 0, 0, 0, 0, 0, 0],
-        [0, TokenType::NUMERIC, 1, 0, 12, 0, 1, 1, 0, 0, 0],
-        [0, TokenType::NAME, 3, 0, 14, 1, 1, 0, 0, 0, 0],
-        [0, TokenType::YY_EOF, 3, 0, 15, 2, 0, 0, 0, 0, 0],
+        [
+            0,
+            TokenType::StartExpression as u32,
+            0,
+            0,
+            0,
+            0,
+            0,
+            0,
+            0,
+            0,
+            0,
+        ],
+        [0, TokenType::Numeric as u32, 1, 0, 12, 0, 1, 1, 0, 0, 0],
+        [0, TokenType::Name as u32, 3, 0, 14, 1, 1, 0, 0, 0, 0],
+        [0, TokenType::YyEof as u32, 3, 0, 15, 2, 0, 0, 0, 0, 0],
     ],
     values: [0x31, 0x61],
 };
@@ -52,10 +64,22 @@ static ONE_A: Old = Old {
 // The record of ` +bb`, in which a place can move without another clause of 13 being broken.
 static SPACED: Old = Old {
     rows: [
-        [0, TokenType::START_EXPRESSION, 0, 0, 0, 0, 0, 0, 0, 0, 0],
-        [0, TokenType::PLUS, 2, 0, 13, 0, 0, 0, 0, 0, 0],
-        [0, TokenType::NAME, 4, 0, 14, 0, 2, 0, 0, 0, 0],
-        [0, TokenType::YY_EOF, 4, 0, 16, 2, 0, 0, 0, 0, 0],
+        [
+            0,
+            TokenType::StartExpression as u32,
+            0,
+            0,
+            0,
+            0,
+            0,
+            0,
+            0,
+            0,
+            0,
+        ],
+        [0, TokenType::Plus as u32, 2, 0, 13, 0, 0, 0, 0, 0, 0],
+        [0, TokenType::Name as u32, 4, 0, 14, 0, 2, 0, 0, 0, 0],
+        [0, TokenType::YyEof as u32, 4, 0, 16, 2, 0, 0, 0, 0, 0],
     ],
     values: [0x62, 0x62],
 };
@@ -192,11 +216,11 @@ static CHANGES: [(usize, usize, u32); 15] = [
     (2, Item::START, 0),
     (1, Item::BEFORE, 0),
     // A last type before the last row, a refusal there, none at the end; numbers that no item has; an extra number that is only kept.
-    (2, Item::NUMBER, TokenType::YY_EOF),
-    (2, Item::NUMBER, TokenType::YY_ERROR),
-    (2, Item::NUMBER, TokenType::YY_UNDEF),
+    (2, Item::NUMBER, TokenType::YyEof as u32),
+    (2, Item::NUMBER, TokenType::YyError as u32),
+    (2, Item::NUMBER, TokenType::YyUndef as u32),
     (1, Item::REFUSED, 1),
-    (3, Item::NUMBER, TokenType::NAME),
+    (3, Item::NUMBER, TokenType::Name as u32),
     (0, Item::REFUSED, 2),
     (0, Item::FLAGS, 32),
     (1, Item::EXTRA, 2),

@@ -35,7 +35,7 @@ fn run(
     };
     let made = runs::run::run(
         text,
-        TokenType::START_EXPRESSION,
+        TokenType::StartExpression as u32,
         Flags::from_bits(flags),
         scope,
         &mut room,

@@ -25,7 +25,7 @@ fn adds_up(row: &Row) -> bool
 fn is_number(row: &Row) -> bool
     ensures { result ≡ spec.is_number row.now }
 {
-    row[Item::REFUSED] != 1 && row[Item::NUMBER] == TokenType::NUMERIC
+    row[Item::REFUSED] != 1 && row[Item::NUMBER] == TokenType::Numeric as u32
 }
 
 fn is_row(row: &Row) -> bool

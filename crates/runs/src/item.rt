@@ -136,9 +136,9 @@ impl Value {
 pub fn ends_run(row: &Row) -> bool
     ensures { result ≡ is_last (eqb (get_or row.now refused_at 0) 1) (get_or row.now number_at 0) }
 {
+    let number = row[Item::NUMBER];
     row[Item::REFUSED] == 1
-        || matches!(
-            row[Item::NUMBER],
-            TokenType::YY_EOF | TokenType::YY_UNDEF | TokenType::YY_ERROR
-        )
+        || number == TokenType::YyEof as u32
+        || number == TokenType::YyUndef as u32
+        || number == TokenType::YyError as u32
 }

@@ -27,6 +27,7 @@ use lexer::token_type::TokenType;
 use lexer::window;
 use search::known::Known;
 use text::chars::Char;
+use text::classes::{Class, Digit, NameStart};
 use words::keywords;
 use words::keywords::Found;
 
@@ -132,10 +133,10 @@ fn other_cases(
     ensures { Takes rest.now q (other_cases fuel (flags_of flags) (is_name (sound_scope known.now.scope)) (window_of 12 rest.now i) i) out.old result out.new
         × (scratch.new ≡ scratch.old) }
 {
-    if text::classes::is_digit(c) {
+    if Digit::has(c) {
         return number_at(rest, i, q, flags, out);
     }
-    if text::classes::is_name_start_char(c) {
+    if NameStart::has(c) {
         let o = naming::name::read_name(rest, i, flags, known, out, scratch);
         return Outcome {
             reach: q.max(o.reach),
@@ -153,7 +154,7 @@ fn begins_with_point(rest: &[u32], i: usize, c: u32) -> bool
     requires { i ≤ max_chars }
     ensures { result ≡ eqb 0x2E c && is_digit (shown (cell_at rest.now (i + 1))) }
 {
-    Char::DOT == c && text::classes::is_digit(window::shown_at(rest, i + 1))
+    Char::DOT == c && Digit::has(window::shown_at(rest, i + 1))
 }
 
 // Behind the words: a number that begins with its point, a string, a symbol, or another case.

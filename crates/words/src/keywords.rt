@@ -14,7 +14,7 @@ use lexer::flags::Flags;
 use lexer::token_type::TokenType;
 use lexer::{look, window};
 use text::chars::Char;
-use text::classes::Whitespace;
+use text::classes::{Class, Separator, Whitespace};
 
 // What must follow a word: in the window's next place or, of the last two, behind optional whitespace.
 #[derive(Clone, Copy)]
@@ -187,7 +187,7 @@ fn is_follower(follower: Follower, c: u32) -> bool
 {
     match follower {
         Follower::Space => c == Char::SPACE,
-        Follower::Separator => text::classes::is_separator(c),
+        Follower::Separator => Separator::has(c),
         Follower::SpaceOrParen => matches!(c, Char::SPACE | Char::LEFT_PAREN),
         Follower::Less => c == Char::LESS,
         Follower::ParenOrLess => matches!(c, Char::LEFT_PAREN | Char::LESS),

@@ -8,27 +8,27 @@ use Rattle.tokens.proofs.TokenLaws.{takes_as, takes_later, takes_done, digit_sta
 use Rattle.tokens.proofs.token.other_cases.Goals as goal
 
 pub number_at-requires : goal.number_at-requires
-number_at-requires c = (omega arith, omega arith, omega arith, digit_starts _ _ c.requires.2 (sym c.is_digit.ensures ∙ c.if-is_digit.true))
+number_at-requires c = (omega arith, omega arith, omega arith, digit_starts _ _ c.requires.2 (sym c.has.ensures ∙ c.if-has.true))
 
-pub returns-then-is_digit : goal.returns-then-is_digit
-returns-then-is_digit c =
+pub returns-then-has : goal.returns-then-has
+returns-then-has c =
     let x = c.args in
-    (takes_as (case-digit (flags_of x.flags) (is_name (sound_scope x.known.now.scope)) x.rest.now x.i c.requires.2 c.is_digit.ensures c.if-is_digit.true) c.number_at.ensures, refl)
+    (takes_as (case-digit (flags_of x.flags) (is_name (sound_scope x.known.now.scope)) x.rest.now x.i c.requires.2 c.has.ensures c.if-has.true) c.number_at.ensures, refl)
 
 pub read_name-o-requires : goal.read_name-o-requires
-read_name-o-requires c = (omega arith, name_there _ _ c.requires.2 (sym c.is_name_start_char.ensures ∙ c.if-is_name_start_char.true), omega arith, c.requires.4)
+read_name-o-requires c = (omega arith, name_there _ _ c.requires.2 (sym c.has-2.ensures ∙ c.if-has-2.true), omega arith, c.requires.4)
 
-pub returns-then-is_name_start_char : goal.returns-then-is_name_start_char
-returns-then-is_name_start_char c =
+pub returns-then-has-2 : goal.returns-then-has-2
+returns-then-has-2 c =
     let x = c.args in
-    (takes_as (case_name (flags_of x.flags) (is_name (sound_scope x.known.now.scope)) x.rest.now x.i c.requires.2 c.is_digit.ensures c.if-is_digit.false c.is_name_start_char.ensures c.if-is_name_start_char.true) (takes_later c.read_name-o.ensures.0 _ c.max.ensures), c.read_name-o.ensures.1)
+    (takes_as (case_name (flags_of x.flags) (is_name (sound_scope x.known.now.scope)) x.rest.now x.i c.requires.2 c.has.ensures c.if-has.false c.has-2.ensures c.if-has-2.true) (takes_later c.read_name-o.ensures.0 _ c.max.ensures), c.read_name-o.ensures.1)
 
 pub returns-then-is_blank : goal.returns-then-is_blank
 returns-then-is_blank c =
     let x = c.args in
-    (takes_as (case-end (flags_of x.flags) (is_name (sound_scope x.known.now.scope)) x.rest.now x.i c.requires.2 c.is_digit.ensures c.if-is_digit.false c.is_name_start_char.ensures c.if-is_name_start_char.false c.is_blank.ensures c.if-is_blank.true) (takes_done _ _ _ (c.plain.ensures _)), refl)
+    (takes_as (case-end (flags_of x.flags) (is_name (sound_scope x.known.now.scope)) x.rest.now x.i c.requires.2 c.has.ensures c.if-has.false c.has-2.ensures c.if-has-2.false c.is_blank.ensures c.if-is_blank.true) (takes_done _ _ _ (c.plain.ensures _)), refl)
 
 pub returns : goal.returns
 returns c =
     let x = c.args in
-    (takes_as (case_nothing (flags_of x.flags) (is_name (sound_scope x.known.now.scope)) x.rest.now x.i c.requires.2 c.is_digit.ensures c.if-is_digit.false c.is_name_start_char.ensures c.if-is_name_start_char.false c.is_blank.ensures c.if-is_blank.false) (takes_done _ _ _ (c.plain-2.ensures _)), refl)
+    (takes_as (case_nothing (flags_of x.flags) (is_name (sound_scope x.known.now.scope)) x.rest.now x.i c.requires.2 c.has.ensures c.if-has.false c.has-2.ensures c.if-has-2.false c.is_blank.ensures c.if-is_blank.false) (takes_done _ _ _ (c.plain-2.ensures _)), refl)
