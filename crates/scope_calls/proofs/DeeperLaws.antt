@@ -25,6 +25,10 @@ pub deeper_below : (c : ℕ) (es : List Entry) → AllIn c es → AllBelow c (ma
 deeper_below c [] h = tt
 deeper_below c (e ∷ es) h = (h.0, omega arith, deeper_below c es h.1)
 
+pub deeper_in : (c : ℕ) (es : List Entry) → AllIn c es → AllIn c (map deeper es)
+deeper_in c [] h = tt
+deeper_in c (e ∷ es) h = (h.0, deeper_in c es h.1)
+
 pub deeper-raised : (es : List Entry) → map (raised 1) es ≡ map deeper es
 deeper-raised [] = refl
 deeper-raised (e ∷ es) = rw (add-one e.depth, deeper-raised es)

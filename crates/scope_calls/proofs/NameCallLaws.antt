@@ -1,17 +1,19 @@
 -- Naming in the last context, as the calls answer it.
-use mathlib.Core.Path.{◌≡◌, sym, ◌∙◌, ap}
-use mathlib.Core.Bool.{true, false}
+use mathlib.Core.Path.{◌≡◌, refl, sym, ◌∙◌, ap, subst}
+use mathlib.Core.Bool.{true, false, ◌&&◌, ◌||◌, not}
 use mathlib.Core.List.{List, [], ◌∷◌, ◌++◌, map, append_assoc}
 use Prim.Native.Nat.{ℕ, suc, ◌+◌, ◌-◌, ◌<◌, ◌≤◌}
 use native.Mathlib.Omega.{arith}
 use lib.ListN.{length, take, drop, length-append, length-map}
+use lib.Dec.{ltb}
 use borrow.Author.Tests.{eq-eqb, ne_eqb, lt-ltb, le-ltb}
+use Rattle.reading.proofs.Test.{or_left, or_right}
 use Rattle.text.specs.Refusals.{broken_scope, over_limit}
 use Rattle.scope.specs.declared.scope.Scope.{Scope}
 use Rattle.scope.specs.Limits.{max_contexts, max_entries, max_depth}
-use Rattle.scope.specs.Entries.{Entry, variable, context_kind, ParsingScope}
+use Rattle.scope.specs.Entries.{Entry, variable, context_kind}
 use Rattle.scope.specs.Settled.{settled}
-use Rattle.scope.specs.Broken.{is_broken_name}
+use Rattle.scope.specs.Broken.{is_broken_name, has_parent, is_broken_entry, any_broken, is_broken_list}
 use Rattle.scope.specs.Calls.{Changed, changed, refused, under, top, deeper, added, set_entry_name, set_context}
 use Rattle.scope.specs.Lent.{held, listed, any_outside, scope_of, is_broken, on_scope, set_context_list}
 use Rattle.scope.specs.Listing.{any_broken_to, raised}
@@ -20,9 +22,9 @@ use Rattle.scope_calls.specs.Naming.{without, Moved}
 use Rattle.scope.specs.Answers.{lent}
 use Rattle.scope.proofs.HeldLaws.{held-length}
 use Rattle.scope.proofs.SoundLaws.{sound}
-use Rattle.lists.proofs.OneContext.{listed_in}
-use Rattle.scope_calls.proofs.UnbrokenLaws.{Unbroken, Leaves}
-use Rattle.scope_calls.proofs.WholeLaws.{whole, fits_written}
+use Rattle.lists.proofs.OneContext.{AllIn, listed_in}
+use Rattle.scope_calls.proofs.UnbrokenLaws.{Leaves, added_leaves}
+use Rattle.scope_calls.proofs.WholeLaws.{not_broken, unbroken_of, fits_written}
 use Rattle.scope_calls.proofs.SettlesLaws.{AllBelow, top_in, top_distinct, settles}
 use Rattle.scope_calls.proofs.DeeperLaws.{list_below, deeper-raised, settled_below}
 use Rattle.scope_calls.proofs.NamingLaws.{moved_appended}
@@ -80,15 +82,20 @@ module _ (s : Scope) (ss ns : List (List ℕ)) (ok : is_broken (lent s ss ns) �
           rw (ne_eqb _ _ z, le-ltb max_contexts s.contexts (omega arith), parts, total, le-ltb max_entries (from + (left + suc m)) (omega arith), a.reads, a.slots_behind, a.names_behind)
 
       pub added_whole : {ss' ns' : List (List ℕ)} {to : ℕ} → from + left + m < max_entries → Moved ss ns ss' ns' from to max_entries (without (suc max_depth) x (drop from (held s.entries ss ns)) ++ (new ∷ settled tail))
-          → (call : ParsingScope → Changed) → ((w : ParsingScope) → Unbroken w → Leaves (call w))
-          → changed (scope_of (lent (record { contexts = s.contexts; entries = to; parsed = s.parsed }) ss' ns')) ≡ on_scope (lent s ss ns) call
-          → is_broken (lent (record { contexts = s.contexts; entries = to; parsed = s.parsed }) ss' ns') ≡ false
-      added_whole {ss'} {ns'} {to} h a call keeps e =
+          → AllIn s.contexts tail → is_broken_list (new ∷ tail) ≡ false → is_broken (lent (record { contexts = s.contexts; entries = to; parsed = s.parsed }) ss' ns') ≡ false
+      added_whole {ss'} {ns'} {to} h a own b =
           let k = sound (lent s ss ns) ok in
           let l = k.limits in
           let room : to ≤ max_entries = omega (arith, a.place, f.stay, length-append (without (suc max_depth) x (drop from (held s.entries ss ns))) (new ∷ settled tail)) in
-          whole (lent s ss ns) (lent (record { contexts = s.contexts; entries = to; parsed = s.parsed }) ss' ns') call keeps e
-          (fits_written k s.contexts from to (omega arith) f.few room a.as_many_slots a.as_many_names a.short a.slots_behind)
+          not_broken (lent (record { contexts = s.contexts; entries = to; parsed = s.parsed }) ss' ns') (fits_written k s.contexts from to (omega arith) f.few room a.as_many_slots a.as_many_names a.short a.slots_behind)
+          (subst Leaves (sym (added_done h a)) (added_leaves (scope_of (lent s ss ns)) (unbroken_of (lent s ss ns) k) (new ∷ tail) (refl, own) b))
+
+-- The name of a list's first entry.
+pub named_first : (e : Entry) (es : List Entry) → is_broken_list (e ∷ es) ≡ false → is_broken_name e.name ≡ false
+unfolding any_broken is_broken_entry
+named_first e es h =
+    or_right (ltb max_depth e.depth || ltb context_kind e.kind || (ltb 0 e.depth && not (has_parent e []))) (is_broken_name e.name)
+    (or_left (is_broken_entry e []) (any_broken (e ∷ []) es) h)
 
 module _ (s : Scope) (ss ns : List (List ℕ)) (ok : is_broken (lent s ss ns) ≡ false) (x : List ℕ) where
   pub entry_broken : is_broken_name x ≡ true → refused broken_scope ≡ on_scope (lent s ss ns) (set_entry_name x)

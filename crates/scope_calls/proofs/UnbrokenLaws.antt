@@ -1,7 +1,7 @@
 -- A call on a scope that is not broken leaves one that is not broken. One law for each way that entries come about: left after replacing, put behind others, below a context.
 use mathlib.Core.Path.{◌≡◌, refl, sym, ◌∙◌}
 use mathlib.Core.Bool.{Bool, true, false, cond, ◌&&◌, ◌||◌, not, false≢true, true≢false}
-use mathlib.Core.List.{List, [], ◌∷◌, ◌++◌, map}
+use mathlib.Core.List.{List, [], ◌∷◌, ◌++◌}
 use Prim.Native.Nat.{ℕ, suc, ◌-◌, ◌<◌, ◌≤◌}
 use native.Mathlib.Omega.{arith}
 use lib.Dec.{eqb, ltb, leb}
@@ -10,11 +10,11 @@ use borrow.Author.Tests.{eq-eqb, ne_eqb, lt-ltb, le-ltb, leb-true, leb-false, lt
 use Rattle.reading.proofs.Test.{by_test, by_order, or_left, or_right}
 use Rattle.names.specs.Same.{same, member}
 use Rattle.scope.specs.Limits.{max_contexts, max_entries, max_parsed, max_depth}
-use Rattle.scope.specs.Entries.{Entry, variable, context_kind, ParsingScope}
+use Rattle.scope.specs.Entries.{Entry, context_kind, ParsingScope}
 use Rattle.scope.specs.Settled.{is_repeated, settled_from, settled}
 use Rattle.scope.specs.Broken.{is_broken_name, has_parent, is_broken_entry, any_broken, is_broken_list, any_repeated, is_broken_set, any_misplaced}
-use Rattle.scope.specs.Calls.{Changed, changed, refused, under, top, limited, push, pop, added, entry, deeper, set_entry_name, set_context, add_parsed_name}
-use Rattle.scope.specs.Lent.{listed, any_outside, push_list, set_context_list}
+use Rattle.scope.specs.Calls.{Changed, changed, refused, under, top, limited, push, pop, added, add_parsed_name}
+use Rattle.scope.specs.Lent.{listed, any_outside, push_list}
 use Rattle.names.proofs.SameLaws.{same_sym}
 use Rattle.lists.proofs.OneContext.{AllIn, listed_in}
 use Rattle.scope_calls.proofs.SettlesLaws.{top_in}
@@ -301,7 +301,7 @@ module _ (s : ParsingScope) (u : Unbroken s) where
         unbroken_set = u.unbroken_set;
       })
 
-  added_leaves : (es : List Entry) → AllIn s.contexts es → is_broken_list es ≡ false → Leaves (added es s)
+  pub added_leaves : (es : List Entry) → AllIn s.contexts es → is_broken_list es ≡ false → Leaves (added es s)
   added_leaves es k h =
       let n = s.contexts in
       let own = all_in_joined n (top n s.entries) es (top_in n 1 s.entries u.placed) k in
@@ -317,19 +317,6 @@ module _ (s : ParsingScope) (u : Unbroken s) where
         unbroken_set = u.unbroken_set;
       }))
 
-  pub entry_leaves : (n : List ℕ) → Leaves (set_entry_name n s)
-  unfolding set_entry_name any_broken is_broken_entry
-  entry_leaves n = by_test Leaves (is_broken_name n) (λ q. tt) (λ q. added_leaves (entry s 0 variable n ∷ []) (refl, tt) (rw q))
-
-  pub context_leaves : (n : List ℕ) (es : List Entry) → AllIn s.contexts es → Leaves (set_context n es s)
-  unfolding set_context
-  context_leaves n es k =
-      by_test Leaves (is_broken_list (entry s 0 context_kind n ∷ map deeper es)) (λ q. tt) (λ q. added_leaves (entry s 0 context_kind n ∷ map deeper es) (refl, deeper_in s.contexts es k) q)
-    where
-      deeper_in : (c : ℕ) (fs : List Entry) → AllIn c fs → AllIn c (map deeper fs)
-      deeper_in c [] h = tt
-      deeper_in c (f ∷ fs) h = (h.0, deeper_in c fs h.1)
-
   pub parsed_leaves : (n : List ℕ) → Leaves (add_parsed_name n s)
   unfolding add_parsed_name
   parsed_leaves n =
@@ -341,6 +328,3 @@ module _ (s : ParsingScope) (u : Unbroken s) where
   -- As lists are lent.
   pub push_list_leaves : (cs : List ℕ) (rs : List (List ℕ)) → Leaves (push_list cs rs s)
   push_list_leaves cs rs = by_test Leaves (any_outside cs rs) (λ q. tt) (λ q. push_leaves (listed (suc s.contexts) cs rs) (listed_in (suc s.contexts) cs rs))
-
-  pub context_list_leaves : (n cs : List ℕ) (rs : List (List ℕ)) → Leaves (set_context_list n cs rs s)
-  context_list_leaves n cs rs = by_test Leaves (any_outside cs rs) (λ q. tt) (λ q. context_leaves n (listed s.contexts cs rs) (listed_in s.contexts cs rs))

@@ -26,7 +26,7 @@ pub record Fits (l : Lent) : Type 0 where
   pub short_entries : any_too_long l.entries l.slots ≡ false
   pub short_parsed : any_too_long l.parsed (drop max_entries l.slots) ≡ false
 
-unbroken_of : (l : Lent) → Sound l → Unbroken (scope_of l)
+pub unbroken_of : (l : Lent) → Sound l → Unbroken (scope_of l)
 unbroken_of l s = record { placed = s.placed; unbroken = s.unbroken; distinct = s.distinct; unbroken_set = s.unbroken_set }
 
 pub not_broken : (l : Lent) → Fits l → Unbroken (scope_of l) → is_broken l ≡ false

@@ -1,11 +1,15 @@
 // An entry named in the last context: one of its name there goes with all below it.
-ghost use Rattle.std.specs.Prelude.{◌≡◌, false, [], ◌∷◌, ◌++◌, suc, ◌+◌, ◌≤◌, ◌<◌, length, drop};
+ghost use Rattle.std.specs.Prelude.{◌≡◌, false, [], ◌∷◌, ◌++◌, suc, ◌+◌, ◌-◌, ◌≤◌, ◌<◌, length, drop};
 ghost use Rattle.scope.specs.Limits.{max_name, max_entries, max_depth};
 ghost use Rattle.scope.specs.Calls as spec;
-ghost use Rattle.scope.specs.Lent.{held, any_too_long, on_scope, set_context_list};
+ghost use Rattle.scope.specs.Broken.{is_broken_list};
+ghost use Rattle.scope.specs.Kinds.{kind_number};
+ghost use Rattle.scope.specs.Lent.{held, any_too_long, scope_of, is_broken, on_scope, set_context_list};
+ghost use Rattle.scope.specs.Listing.{any_broken_to};
+ghost use Rattle.lists.specs.List.{entries_of};
 ghost use Rattle.scope.specs.Sound.{rows_entries};
 ghost use Rattle.scope.specs.Viewed.{viewed};
-ghost use Rattle.scope_calls.specs.Naming.{stays_beside, without, Moved};
+ghost use Rattle.scope_calls.specs.Naming.{stays_beside, without, headed, Moved};
 ghost use Rattle.scope_calls.specs.Lending.{SameRows};
 ghost use Rattle.scope.specs.Answers.{lent, answer_of, Kept, Whole};
 
@@ -14,7 +18,7 @@ use crate::{push, stack};
 use lists::list::List;
 use lists::settling;
 use scope::entries::{Entries, Entry};
-use scope::lent::Lent;
+use scope::lent::{Lent, Sound};
 use scope::rows::Rows;
 use scope::scope::{Kind, Listed, Scope, Slot};
 use scope::{broken, entries};
@@ -81,8 +85,49 @@ fn replace(rows: &mut RowsMut, from: usize, count: usize, e: Entry) -> usize
     to + 1
 }
 
+// Puts an entry of this name and kind behind those of the last context in place of one of its name there, and the list one level deeper below it.
+// Ruled out, among others: the limit counted before replacing; the list written before the limit is known to hold.
+fn add(
+    s: Scope,
+    slots: &mut [[u32; Slot::NUMBERS]],
+    names: &mut [[u32; Scope::MAX_NAME]],
+    kind: Kind,
+    name: &[u32],
+    list: List,
+) -> Result<Scope, Refusal>
+    requires { (is_broken (lent s slots.old names.old) ≡ false) × (list.context ≡ s.contexts) × (any_broken_to (max_depth - 1) [] (entries_of list) ≡ false)
+        × (is_broken_list (headed s.contexts (kind_number kind) name.now (entries_of list)) ≡ false) }
+    ensures { (answer_of result slots.new names.new ≡ spec.added (headed s.contexts (kind_number kind) name.now (entries_of list.entry)) (scope_of (lent s slots.old names.old)))
+        × Kept result slots.old slots.new × Kept result names.old names.new × Whole result slots.new names.new }
+{
+    if s.contexts == 0 {
+        return Ok(s);
+    }
+    let held = Sound {
+        counts: s,
+        slots,
+        names,
+    }
+    .entries();
+    let from = stack::before_context(held, s.contexts);
+    let kept = from + left_beside(held, from, name);
+    if Scope::MAX_ENTRIES <= kept || Scope::MAX_ENTRIES - kept <= settling::remaining(list) {
+        return Err(Refusal::OverLimit);
+    }
+    let e = Entry {
+        context: list.context,
+        depth: 0,
+        kind: u32::from(kind),
+        name,
+    };
+    let mut lent = RowsMut { slots, names };
+    let at = replace(&mut lent, from, s.entries, e);
+    let entries = push::append(&mut lent, at, 1, list);
+    Ok(Scope { entries, ..s })
+}
+
 // Names a variable in the last context.
-// Ruled out, among others: the limit counted before replacing; a context's entries left without it.
+// Ruled out, among others: a context's entries left without it.
 pub fn set_entry_name(
     s: Scope,
     slots: &mut [[u32; Slot::NUMBERS]],
@@ -92,7 +137,7 @@ pub fn set_entry_name(
     ensures { (answer_of result slots.new names.new ≡ on_scope (lent s slots.old names.old) (spec.set_entry_name name.now))
         × Kept result slots.old slots.new × Kept result names.old names.new × Whole result slots.new names.new }
 {
-    let scope = Lent {
+    Lent {
         counts: s,
         slots,
         names,
@@ -101,26 +146,17 @@ pub fn set_entry_name(
     if broken::is_broken_name(name) {
         return Err(Refusal::BrokenScope);
     }
-    if s.contexts == 0 {
-        return Ok(s);
-    }
-    let held = scope.entries();
-    let from = stack::before_context(held, s.contexts);
-    if Scope::MAX_ENTRIES <= from + left_beside(held, from, name) {
-        return Err(Refusal::OverLimit);
-    }
-    let e = Entry {
+    // Nothing stands below a variable.
+    let list = List {
         context: s.contexts as u32,
-        depth: 0,
-        kind: u32::from(Kind::Variable),
-        name,
+        rows: &[],
+        cells: &[],
     };
-    let entries = replace(&mut RowsMut { slots, names }, from, s.entries, e);
-    Ok(Scope { entries, ..s })
+    add(s, slots, names, Kind::Variable, name, list)
 }
 
 // Names a context with an entry list in the last context; the list stands one level deeper.
-// Ruled out, among others: the list's depth 7 let pass; the list written before the limit is known to hold.
+// Ruled out, among others: the list's depth 7 let pass.
 pub fn set_context(
     s: Scope,
     slots: &mut [[u32; Slot::NUMBERS]],
@@ -132,34 +168,15 @@ pub fn set_context(
     ensures { (answer_of result slots.new names.new ≡ on_scope (lent s slots.old names.old) (set_context_list name.now cells.now rows.now))
         × Kept result slots.old slots.new × Kept result names.old names.new × Whole result slots.new names.new }
 {
-    let scope = Lent {
+    Lent {
         counts: s,
         slots,
         names,
     }
     .checked()?;
-    let context = s.contexts as u32;
-    let list = List::checked(context, rows, cells)?;
+    let list = List::checked(s.contexts as u32, rows, cells)?;
     if broken::is_broken_name(name) || entries::any_broken(&list, Scope::MAX_DEPTH - 1) {
         return Err(Refusal::BrokenScope);
     }
-    if s.contexts == 0 {
-        return Ok(s);
-    }
-    let held = scope.entries();
-    let from = stack::before_context(held, s.contexts);
-    let kept = from + left_beside(held, from, name);
-    if Scope::MAX_ENTRIES <= kept || Scope::MAX_ENTRIES - kept <= settling::remaining(list) {
-        return Err(Refusal::OverLimit);
-    }
-    let e = Entry {
-        context,
-        depth: 0,
-        kind: u32::from(Kind::Context),
-        name,
-    };
-    let mut lent = RowsMut { slots, names };
-    let at = replace(&mut lent, from, s.entries, e);
-    let entries = push::append(&mut lent, at, 1, list);
-    Ok(Scope { entries, ..s })
+    add(s, slots, names, Kind::Context, name, list)
 }
