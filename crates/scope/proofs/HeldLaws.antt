@@ -5,7 +5,7 @@ use Prim.Native.Nat.{ℕ, zero, suc, ◌+◌, ◌-◌, ◌<◌, ◌≤◌}
 use native.Mathlib.Omega.{arith}
 use lib.Dec.{ltb}
 use native.Mathlib.Numerals.{add-one}
-use lib.ListN.{length, get_or, drop, take, drop_of_length-le}
+use lib.ListN.{length, get_or, drop, take}
 use lib.Seq.{drop-cons}
 use borrow.Author.Tests.{ltb-false}
 use mathlib.Core.Bool.{false, ◌||◌}
@@ -31,9 +31,6 @@ held-step i (suc k) [] ns g h j = absurd (omega arith)
 held-step i (suc k) (s ∷ ss) [] g h j = absurd (omega arith)
 held-step zero (suc k) (s ∷ ss) (n ∷ ns) g h j = refl
 held-step (suc i) (suc k) (s ∷ ss) (n ∷ ns) g h j = held-step i k ss ns (omega arith) (omega arith) (omega arith)
-
-pub held-end : (i k : ℕ) (ss ns : List (List ℕ)) → k ≤ i → k ≤ length ss → k ≤ length ns → drop i (held k ss ns) ≡ []
-held-end i k ss ns g h j = let z : length (held k ss ns) ≤ i = rw (held-length k ss ns h j) g in drop_of_length-le (held k ss ns) z
 
 -- One more entry lies before the next.
 pub earlier_step : (j : ℕ) (es before : List Entry) (e : Entry) (rest : List Entry) → drop j es ≡ e ∷ rest → earlier (suc j) es before ≡ e ∷ earlier j es before

@@ -1,7 +1,6 @@
 pub mod ScopeCases
 pub mod LentCases
 pub mod SearchLaws
-pub mod CompareLaws
 pub mod HeldLaws
 pub mod BrokenLaws
 pub mod MarkLaws

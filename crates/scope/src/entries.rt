@@ -12,7 +12,7 @@ ghost use Rattle.scope.specs.Parented.{Parented};
 ghost use Rattle.scope.specs.Viewed.{viewed, no_entry};
 
 use crate::scope::{Kind, Scope, Slot};
-use crate::{broken, compare};
+use crate::{broken, marks};
 
 // The number of its context, its depth, the number of its kind, and its name.
 #[derive(Clone, Copy)]
@@ -163,10 +163,10 @@ fn any_of_few<E: Entries>(all: &E) -> bool
 fn any_of_many<E: Entries>(all: &E) -> bool
     ensures { result ≡ any_repeated (E.entries all.now) }
 {
-    let mut taken = [false; compare::MARKS];
+    let mut taken = [false; marks::MARKS];
     for i in (0..all.count()).rev() {
         let e = all.at(i);
-        let mark = compare::mark(e.name);
+        let mark = marks::mark(e.name);
         if taken[mark] && is_repeated(e, all, i) {
             return true;
         }

@@ -6,5 +6,5 @@ pub mod chars; // chars.rt: the characters that code asks for by name
 pub mod classes; // classes.rt: the character classes of the grammar
 pub mod hex; // hex.rt: hexadecimal digits
 pub mod output; // output.rt: cells written one behind the other
-pub mod refusal; // refusal.rt: the numbers of the refusals
+pub mod refusal; // refusal.rt: why a call refuses
 pub mod utf8; // utf8.rt: bytes to characters

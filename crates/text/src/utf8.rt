@@ -142,7 +142,7 @@ fn write_chars(bytes: &[u8], out: &mut [u32])
     }
 }
 
-// Opens bytes as a text: 1 for too many bytes, 2 with the place of the first bad sequence, 1 for too many characters, 9 for a short output.
+// Opens bytes as a text. Refused are too many bytes, a bad sequence with the place of the first, too many characters, a short output, in this order.
 // Ruled out, among others: an overlong form taken for a character; each character written at its byte's place.
 pub fn open_bytes(bytes: &[u8], out: &mut [u32]) -> Result<Text, Refused>
     ensures answer { answered result ≡ opening_of (spec.open_bytes bytes.now (length out.old)) }

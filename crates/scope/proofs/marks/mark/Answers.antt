@@ -2,7 +2,7 @@
 use mathlib.Core.Path.{sym, ◌∙◌}
 use native.Mathlib.Omega.{arith}
 use Rattle.scope.proofs.MarkLaws.{mark_end, mark_step}
-use Rattle.scope.proofs.compare.mark.Goals as goal
+use Rattle.scope.proofs.marks.mark.Goals as goal
 
 pub loop-c-preserved : goal.loop-c-preserved
 loop-c-preserved c = (omega arith, c.loop-c.invariant.1 ∙ mark_step c.args.cells.now c.loop-c.c-index c.loop-c.m (omega arith))
