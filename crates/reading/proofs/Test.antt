@@ -7,27 +7,23 @@ use native.Mathlib.Nat.{not-suc-le-zero}
 use native.Mathlib.Omega.{arith}
 use lib.Dec.{ltb, eqb}
 use borrow.Author.Tests.{ltb-true, ltb-false, eqb-true, ne_eqb}
+pub use Rattle.std.proofs.lemmas.Bool.{and_parts as both}
+use Rattle.std.proofs.lemmas.Bool.{or_parts}
 use Rattle.reading.specs.Cells.{is_one_of}
 
 pub by_test : {A : Type 0} (P : A → Type 0) (b : Bool) {x y : A} → (b ≡ true → P x) → (b ≡ false → P y) → P (cond b x y)
 by_test P true f g = f refl
 by_test P false f g = g refl
 
-pub both : (b c : Bool) → b && c ≡ true → (b ≡ true) × (c ≡ true)
-both true c h = (refl, h)
-both false c h = absurd (false≢true h)
-
 pub either : {X : Type 0} (b : Bool) {c : Bool} → b || c ≡ true → (b ≡ true → X) → (c ≡ true → X) → X
 either true h f g = f refl
 either false h f g = g h
 
 pub or_left : (a b : Bool) → a || b ≡ false → a ≡ false
-or_left true b h = absurd (true≢false h)
-or_left false b h = refl
+or_left a b h = (or_parts a b h).0
 
 pub or_right : (a b : Bool) → a || b ≡ false → b ≡ false
-or_right true b h = absurd (true≢false h)
-or_right false b h = h
+or_right a b h = (or_parts a b h).1
 
 -- What is not k fails the test for it.
 pub other : {c k : ℕ} → (c ≡ k → ⊥) → eqb k c ≡ false
