@@ -1,4 +1,4 @@
-// Words and symbols: words are rows of numbers, tried on the window of twelve characters, which goes by value, in the source's order; a symbol is told by its characters.
+// Words and symbols: words stand beside their letters and are tried on the window of twelve characters, which goes by value, in the source's order; a symbol is told by its characters.
 ghost use Rattle.std.specs.Prelude.{◌≡◌, ◌==◌, cond, true, [], ◌∷◌, ◌+◌, ◌≤◌, ◌<◌, length, get_or, take};
 ghost use Rattle.std.specs.List.{list_all, zip};
 ghost use Rattle.reading.specs.Look.{cell_at};
@@ -10,7 +10,7 @@ ghost use Rattle.lexer.specs.FlagsOf.{flags_of};
 ghost use Rattle.lexer.specs.TypeNumber.{type_number};
 ghost use Rattle.words.specs.Keywords.{class_of, follow_of, when_of, row_of, rows_of, Lettered, are_rows, links_of, links_from, place_from, letter_words, initials, pairs, sign_of, number_in, sign_found, Followed, Matched};
 
-use lexer::flags::Flags;
+use lexer::flags::{Flag, Flags};
 use lexer::token_type::TokenType;
 use lexer::{look, window};
 use text::chars::Char;
@@ -197,7 +197,7 @@ fn is_follower(follower: Follower, c: u32) -> bool
 fn follower_at(rest: &[u32], j: usize, follower: Follower) -> bool
     ensures { result ≡ holds (class_of follower) (cell_at rest.now j) }
 {
-    j < rest.len() && is_follower(follower, rest[j])
+    rest.get(j).is_some_and(|c| is_follower(follower, *c))
 }
 
 // Whether what must follow stands behind a word, and the reach.
@@ -373,10 +373,7 @@ pub fn after_word(kind: TokenType, flags: Flags) -> Flags
     ensures { flags_of result ≡ spec.after_word (type_number kind) (flags_of flags) }
 {
     if kind == TokenType::BetweenAnd {
-        return Flags {
-            between: false,
-            ..flags
-        };
+        return flags.clear(Flag::Between);
     }
     flags
 }
