@@ -21,7 +21,7 @@ use Rattle.scope.specs.Listing.{any_broken_to, stays, cut_after, keep, raised}
 use Rattle.scope_calls.specs.Written.{Appended}
 use Rattle.scope.specs.Answers.{lent}
 use Rattle.scope.proofs.HeldLaws.{held-length}
-use Rattle.scope.proofs.SoundLaws.{sound}
+use Rattle.scope.proofs.SoundLaws.{WithinLent, sound}
 use Rattle.scope_calls.proofs.UnbrokenLaws.{push_list_leaves}
 use Rattle.scope_calls.proofs.WholeLaws.{whole, fits_written}
 use Rattle.scope_calls.proofs.WrittenLaws.{appended_none, appended_more, behind}
@@ -101,52 +101,53 @@ broken_as most p q t = sym (q ∙ ap (any_broken_to most []) (listed_as p)) ∙ 
 pub few : {n l : ℕ} → n ≡ min (suc max_entries) l → n ≤ max_entries → n ≡ l
 few m h = omega arith
 
+-- What the call has found before it asks of the list: a scope and spans that are not broken, and the list is that of the context that is pushed.
+pub record Asked (s : Scope) (ss ns : List (List ℕ)) (cs : List ℕ) (rs : List (List ℕ)) (k : ℕ) : Type 0 where
+  pub ok : is_broken (lent s ss ns) ≡ false
+  pub limits : WithinLent (lent s ss ns)
+  pub inside : any_outside cs rs ≡ false
+  pub next : k ≡ suc s.contexts
+
 -- The call.
-module _ (s : Scope) (ss ns : List (List ℕ)) (cs : List ℕ) (rs : List (List ℕ)) (ok : is_broken (lent s ss ns) ≡ false) where
-  -- The list is that of the context that is pushed.
-  module _ (u : any_outside cs rs ≡ false) {k : ℕ} (next : k ≡ suc s.contexts) where
-    broken : is_broken_list (listed (suc s.contexts) cs rs) ≡ any_broken_to max_depth [] (listed k cs rs)
-    broken = rw next (sym (any_broken_to_lem [] (listed (suc s.contexts) cs rs)))
+module _ {s : Scope} {ss ns : List (List ℕ)} {cs : List ℕ} {rs : List (List ℕ)} {k : ℕ} (g : Asked s ss ns cs rs k) where
+  broken : is_broken_list (listed (suc s.contexts) cs rs) ≡ any_broken_to max_depth [] (listed k cs rs)
+  broken = rw g.next (sym (any_broken_to_lem [] (listed (suc s.contexts) cs rs)))
 
-    pub push_broken : any_broken_to max_depth [] (listed k cs rs) ≡ true → refused broken_scope ≡ on_scope (lent s ss ns) (push_list cs rs)
+  pub push_broken : any_broken_to max_depth [] (listed k cs rs) ≡ true → refused broken_scope ≡ on_scope (lent s ss ns) (push_list cs rs)
+  unfolding push
+  push_broken v = rw (g.ok, g.inside, broken ∙ v)
+
+  module _ (v : any_broken_to max_depth [] (listed k cs rs) ≡ false) where
+    pub push_many : max_contexts ≤ s.contexts → refused over_limit ≡ on_scope (lent s ss ns) (push_list cs rs)
     unfolding push
-    push_broken v = rw (ok, u, broken ∙ v)
+    push_many h = rw (g.ok, g.inside, broken ∙ v, lt-ltb max_contexts (suc s.contexts) (omega arith))
 
-    module _ (v : any_broken_to max_depth [] (listed k cs rs) ≡ false) where
-      pub push_many : max_contexts ≤ s.contexts → refused over_limit ≡ on_scope (lent s ss ns) (push_list cs rs)
+    module _ (h : s.contexts < max_contexts) {n : ℕ} (m₀ : n ≡ min (suc max_entries) (length (settled (listed k cs rs)))) where
+      m : n ≡ min (suc max_entries) (length (settled (listed (suc s.contexts) cs rs)))
+      m = rw g.next at m₀
+
+      total : length (held s.entries ss ns ++ settled (listed (suc s.contexts) cs rs)) ≡ s.entries + length (settled (listed (suc s.contexts) cs rs))
+      total = let l = g.limits in length-append (held s.entries ss ns) _ ∙ rw (held-length s.entries ss ns (omega arith) (omega arith))
+
+      pub push_full : max_entries - s.entries < n → refused over_limit ≡ on_scope (lent s ss ns) (push_list cs rs)
       unfolding push
-      push_many h = rw (ok, u, broken ∙ v, lt-ltb max_contexts (suc s.contexts) (omega arith))
+      push_full f =
+          let l = g.limits in
+          rw (g.ok, g.inside, broken ∙ v, le-ltb max_contexts (suc s.contexts) (omega arith), total, lt-ltb max_entries (s.entries + length (settled (listed (suc s.contexts) cs rs))) (omega (arith, m)))
 
-      module _ (h : s.contexts < max_contexts) {n : ℕ} (m₀ : n ≡ min (suc max_entries) (length (settled (listed k cs rs)))) where
-        m : n ≡ min (suc max_entries) (length (settled (listed (suc s.contexts) cs rs)))
-        m = rw next at m₀
-
-        total : length (held s.entries ss ns ++ settled (listed (suc s.contexts) cs rs)) ≡ s.entries + length (settled (listed (suc s.contexts) cs rs))
-        total =
-            let l = (sound (lent s ss ns) ok).limits in
-            length-append (held s.entries ss ns) _ ∙ rw (held-length s.entries ss ns (omega arith) (omega arith))
-
-        pub push_full : max_entries - s.entries < n → refused over_limit ≡ on_scope (lent s ss ns) (push_list cs rs)
+      module _ {ss' ns' : List (List ℕ)} {to : ℕ} (f : n ≤ max_entries - s.entries) (a : Appended ss ns ss' ns' s.entries to (map (raised 0) (settled (listed k cs rs)))) where
+        pub push_done : changed (scope_of (lent (record { contexts = s.contexts + 1; entries = to; parsed = s.parsed }) ss' ns')) ≡ on_scope (lent s ss ns) (push_list cs rs)
         unfolding push
-        push_full f =
-            let l = (sound (lent s ss ns) ok).limits in
-            rw (ok, u, broken ∙ v, le-ltb max_contexts (suc s.contexts) (omega arith), total, lt-ltb max_entries (s.entries + length (settled (listed (suc s.contexts) cs rs))) (omega (arith, m)))
-
-        pub push_done : {ss' ns' : List (List ℕ)} {to : ℕ} → n ≤ max_entries - s.entries → Appended ss ns ss' ns' s.entries to (map (raised 0) (settled (listed k cs rs)))
-            → changed (scope_of (lent (record { contexts = s.contexts + 1; entries = to; parsed = s.parsed }) ss' ns')) ≡ on_scope (lent s ss ns) (push_list cs rs)
-        unfolding push
-        push_done {ss'} {ns'} {to} f a =
-            let l = (sound (lent s ss ns) ok).limits in
+        push_done =
+            let l = g.limits in
             let e : s.contexts + 1 ≡ suc s.contexts = add-one s.contexts in
-            let a₁ = rw (raised_none (settled (listed k cs rs)), next) at a in
+            let a₁ = rw (raised_none (settled (listed k cs rs)), g.next) at a in
             let z : to ≤ max_entries = omega (arith, a₁.place, m) in
-            rw (ok, u, broken ∙ v, le-ltb max_contexts (suc s.contexts) (omega arith), total, le-ltb max_entries (s.entries + length (settled (listed (suc s.contexts) cs rs))) (omega (arith, m)), e, a₁.reads, behind ss' ss z a₁.slots_behind, behind ns' ns z a₁.names_behind)
+            rw (g.ok, g.inside, broken ∙ v, le-ltb max_contexts (suc s.contexts) (omega arith), total, le-ltb max_entries (s.entries + length (settled (listed (suc s.contexts) cs rs))) (omega (arith, m)), e, a₁.reads, behind ss' ss z a₁.slots_behind, behind ns' ns z a₁.names_behind)
 
-        pub push_whole : {ss' ns' : List (List ℕ)} {to : ℕ} → n ≤ max_entries - s.entries → Appended ss ns ss' ns' s.entries to (map (raised 0) (settled (listed k cs rs)))
-            → is_broken (lent (record { contexts = s.contexts + 1; entries = to; parsed = s.parsed }) ss' ns') ≡ false
-        push_whole {ss'} {ns'} {to} f a =
-            let w = sound (lent s ss ns) ok in
-            let l = w.limits in
-            let z : to ≤ max_entries = omega (arith, a.place, m, m₀, length-map (settled (listed k cs rs)) (raised 0)) in
-            whole (lent s ss ns) (lent (record { contexts = s.contexts + 1; entries = to; parsed = s.parsed }) ss' ns') (push_list cs rs) (λ y u. push_list_leaves y u cs rs) (push_done f a)
-            (fits_written w (s.contexts + 1) s.entries to (omega arith) (omega arith) z a.as_many_slots a.as_many_names a.short (behind ss' ss z a.slots_behind))
+        pub push_whole : is_broken (lent (record { contexts = s.contexts + 1; entries = to; parsed = s.parsed }) ss' ns') ≡ false
+        push_whole =
+            let l = g.limits in
+            let z : to ≤ max_entries = omega (arith, a.place, m₀, length-map (settled (listed k cs rs)) (raised 0)) in
+            whole (lent s ss ns) (lent (record { contexts = s.contexts + 1; entries = to; parsed = s.parsed }) ss' ns') (push_list cs rs) (λ y u. push_list_leaves y u cs rs) push_done
+            (fits_written (sound (lent s ss ns) g.ok) (s.contexts + 1) s.entries to (omega arith) (omega arith) z a.as_many_slots a.as_many_names a.short (behind ss' ss z a.slots_behind))

@@ -67,10 +67,9 @@ pub fn push(
     if entries::any_broken(&list, Scope::MAX_DEPTH) {
         return Err(Refusal::BrokenScope);
     }
-    if Scope::MAX_CONTEXTS < contexts {
-        return Err(Refusal::OverLimit);
-    }
-    if Scope::MAX_ENTRIES - s.entries < settling::remaining(list) {
+    if Scope::MAX_CONTEXTS < contexts
+        || Scope::MAX_ENTRIES - s.entries < settling::remaining(list)
+    {
         return Err(Refusal::OverLimit);
     }
     let entries = append(&mut RowsMut { slots, names }, s.entries, 0, list);
