@@ -2,32 +2,35 @@
 use mathlib.Core.Path.{◌≡◌, refl, sym, ◌∙◌}
 use mathlib.Core.Bool.{Bool, true, false, ◌||◌}
 use mathlib.Core.List.{List, ◌++◌}
-use Prim.Native.Nat.{ℕ, suc, ◌+◌, ◌-◌, ◌<◌, ◌≤◌}
+use Prim.Native.Nat.{ℕ, zero, suc, ◌+◌, ◌-◌, ◌<◌, ◌≤◌}
 use native.Mathlib.Omega.{arith}
 use lib.ListN.{length, get_or, drop}
 use borrow.Author.Tests.{eq-eqb, ne_eqb, lt-ltb, le-ltb}
 use Rattle.reading.specs.Codes.{codes}
 use Rattle.names.specs.Same.{same, member}
-use Rattle.scope.specs.Limits.{max_depth}
 use Rattle.scope.specs.Entries.{Entry}
 use Rattle.scope.specs.Keys.{qualified, keys_of, level, levels}
 use Rattle.scope.specs.Viewed.{no_entry}
-use Rattle.search.specs.Rests.{leads, keys_from}
+use Rattle.search.specs.Rests.{leads}
 use Rattle.search.proofs.TextLaws.{member-append, member-qualified}
 use Rattle.scope.proofs.BrokenLaws.{entries_end, entry_step}
 
 abbrev dot : List ℕ
 dot = codes " . "
 
--- Below the lowest depth there is no key; at a depth in range those there have the keys below them.
-module _ (d : ℕ) (es : List Entry) where
-  pub keys_none : (x : List ℕ) → max_depth < d → member x (keys_from d es) ≡ false
+-- With no level left there is no key; with one or more, those at depth d have the levels below them.
+module _ (n d : ℕ) (es : List Entry) where
+  pub levels_none : (x : List ℕ) → n ≡ 0 → member x (levels n d es) ≡ false
   unfolding levels member
-  keys_none x h = let z : suc max_depth - d ≡ 0 = omega arith in rw z refl
+  levels_none x z = rw z refl
 
-  pub keys_some : d ≤ max_depth → keys_from d es ≡ level (keys_from (d + 1)) d es
+  pub levels_some : (n ≡ 0 → ⊥) → levels n d es ≡ level (levels (n - 1) (d + 1)) d es
   unfolding levels
-  keys_some h = let z : suc max_depth - d ≡ suc (suc max_depth - (d + 1)) = omega arith in rw z refl
+  levels_some z = go n z
+    where
+      go : (m : ℕ) → (m ≡ 0 → ⊥) → levels m d es ≡ level (levels (m - 1) (d + 1)) d es
+      go zero z = absurd (z refl)
+      go (suc m) z = let q : suc m - 1 ≡ m = omega arith in rw q refl
 
 -- The loop over one level.
 module _ (x : List ℕ) (f : List Entry → List (List ℕ)) (d : ℕ) (es : List Entry) (i : ℕ) where
