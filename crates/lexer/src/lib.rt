@@ -8,7 +8,7 @@ pub mod number; // number.rt: numbers
 pub mod string; // string.rt: string literals
 pub mod parts; // parts.rt: the parts of a name
 pub mod bound; // bound.rt: how many parts are worth a search
-pub mod token_type; // token_type.rt: the numbers of the token types
+pub mod token_type; // token_type.rt: the token types
 pub mod flags; // flags.rt: the state's five flags
 pub mod token; // token.rt: what a token call reads
 pub mod window; // window.rt: twelve characters ahead

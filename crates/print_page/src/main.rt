@@ -38,7 +38,7 @@ fn print_refusal(rt: &impl Print, n: u32, place: usize) -> io::Result<()> {
     println!(rt; "R{n} {place}")
 }
 
-// The items of the rows; more than a page holds are 9.
+// The items of the rows; more than a page holds are refused.
 fn print_rows(rt: &impl Print, rows: &[Row]) -> io::Result<()> {
     let page = match page::page_of(rows) {
         Ok(page) => page,

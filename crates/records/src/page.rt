@@ -17,7 +17,7 @@ impl Page {
     pub const ITEMS: usize = 32;
 }
 
-// The items of at most 32 rows: more rows are 9.
+// The items of at most 32 rows: more rows are refused.
 // Ruled out, among others: a page of the first rows where there are more; a blank page.
 pub fn page_of(rows: &[Row]) -> Result<Page, Refusal>
     ensures { Paged rows.now result }
@@ -27,7 +27,7 @@ pub fn page_of(rows: &[Row]) -> Result<Page, Refusal>
     Ok(Page { items })
 }
 
-// Writes the items of a page to the front of the rows; too few rows are 9, and all of them stay.
+// Writes the items of a page to the front of the rows; too few rows are refused, and all of them stay.
 // Ruled out, among others: a refused call that has written to the rows; the last item left out.
 pub fn rows_of(p: Page, rows: &mut [Row]) -> Result<(), Refusal>
     ensures { Copies row_from p.items rows.old result rows.new }

@@ -1,4 +1,4 @@
-// Refusal 13: whether a repair request is broken. What is lent may be anything.
+// Whether a repair request is broken. What is lent may be anything.
 ghost use Rattle.std.specs.Prelude.{◌≡◌, ◌≤◌, ◌<◌, ◌+◌, eqb};
 ghost use Rattle.text.specs.Limits.{max_chars};
 ghost use Rattle.runs.specs.Request as spec;
@@ -123,7 +123,7 @@ pub struct Request<'a> {
 }
 
 impl Request<'_> {
-    // 01: 13 is an edit out of order or out of the old text, an old text over 16,384 characters, a record that is none of a run over it, or a text part that does not reach from the last kept position to the new text's end.
+    // 01: broken is an edit out of order or out of the old text, an old text over 16,384 characters, a record that is none of a run over it, or a text part that does not reach from the last kept position to the new text's end.
     // Ruled out, among others: a reach over the old length + 12 accepted; a row behind the last item accepted.
     pub fn is_broken(self) -> bool
         ensures { result ≡ spec.is_broken_request (request_of self.entry) }
