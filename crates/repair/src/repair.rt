@@ -1,9 +1,9 @@
 // Repair of a record after one edit: kept items, items read afresh to the first match, and the old rest moved.
-ghost use Rattle.std.specs.Prelude.{◌≡◌, false, [], map, ◌+◌, ◌-◌, ◌*◌, ◌≤◌, ◌<◌, length, get_or};
+ghost use Rattle.std.specs.Prelude.{◌≡◌, false, [], map, ◌+◌, ◌-◌, ◌≤◌, ◌<◌, length, get_or};
 ghost use Rattle.text.specs.Limits.{max_chars};
 ghost use Rattle.scope.specs.Keys.{is_name};
 ghost use Rattle.scope.specs.Sound.{sound_scope};
-ghost use Rattle.lexer.specs.Fit.{Clear};
+ghost use Rattle.lexer.specs.Fit.{Clear, Searchable};
 ghost use Rattle.lexer.specs.FlagsOf.{flags_of};
 ghost use Rattle.lexer.specs.Token.{read_token};
 ghost use Rattle.runs.specs.Repair.{repair_items};
@@ -69,8 +69,8 @@ fn is_match(old_rows: &[Row], j: usize, e: Edit, p: usize, flags: Flags) -> bool
 
 // Reads the next item of a part that begins at `base`, and writes it with its place in the whole text.
 fn read_fresh(part: &[u32], base: usize, at: Progress, known: &Known, room: &mut Room) -> Progress
-    requires { (base + length part.now ≤ max_chars) × (at.counts.cells + (length part.now - at.position) ≤ length room.old.store.now) × (2 * length part.now ≤ length room.old.scratch.now)
-        × (at.position ≤ length part.now) × (at.counts.cells ≤ max_chars) × (at.counts.items < length room.old.rows.now) × (at.counts.items ≤ max_chars + 1) × Clear room.old.scratch.now }
+    requires { (base + length part.now ≤ max_chars) × (at.counts.cells + (length part.now - at.position) ≤ length room.old.store.now) × Searchable part.now room.old.scratch.now
+        × (at.position ≤ length part.now) × (at.counts.cells ≤ max_chars) × (at.counts.items < length room.old.rows.now) × (at.counts.items ≤ max_chars + 1) }
     ensures fresh { Fresh (read_token (is_name (sound_scope known.now.scope))) part.now base at room.old.rows.now room.old.store.now result room.new.rows.now room.new.store.now }
     ensures clear { room.new.scratch.now ≡ room.old.scratch.now }
     ensures same { SameSlices room.old room.new }
@@ -95,8 +95,8 @@ fn read_to_match(
     scope: Sound,
     room: &mut Room,
 ) -> Matched
-    requires { (base + length part.now ≤ max_chars) × (kept.items + length part.now + 1 ≤ length room.old.rows.now) × (kept.cells + length part.now ≤ length room.old.store.now) × (2 * length part.now ≤ length room.old.scratch.now)
-        × (kept.items ≤ base + 1) × (kept.cells ≤ base) × Accepted old_rows.now × Clear room.old.scratch.now }
+    requires { (base + length part.now ≤ max_chars) × (kept.items + length part.now + 1 ≤ length room.old.rows.now) × (kept.cells + length part.now ≤ length room.old.store.now) × Searchable part.now room.old.scratch.now
+        × (kept.items ≤ base + 1) × (kept.cells ≤ base) × Accepted old_rows.now }
     ensures to_match { ToMatch (read_token (is_name (sound_scope scope.entry))) (edit_of e) old_rows.now part.now base (flags_of flags) kept.items kept.cells room.old.rows.now room.old.store.now result room.new.rows.now room.new.store.now }
     ensures clear { room.new.scratch.now ≡ room.old.scratch.now }
     ensures same { SameSlices room.old room.new }

@@ -1,9 +1,9 @@
 // A run over a text: the start item, then tokens to the first item that ends it.
-ghost use Rattle.std.specs.Prelude.{◌≡◌, true, false, List, ℕ, ◌+◌, ◌-◌, ◌*◌, ◌≤◌, ◌<◌, length};
+ghost use Rattle.std.specs.Prelude.{◌≡◌, true, false, List, ℕ, ◌+◌, ◌-◌, ◌≤◌, ◌<◌, length};
 ghost use Rattle.text.specs.Limits.{max_chars};
 ghost use Rattle.scope.specs.Keys.{is_name};
 ghost use Rattle.scope.specs.Sound.{sound_scope};
-ghost use Rattle.lexer.specs.Fit.{Clear};
+ghost use Rattle.lexer.specs.Fit.{Searchable};
 ghost use Rattle.lexer.specs.FlagsOf.{flags_of};
 ghost use Rattle.lexer.specs.Token.{read_token};
 ghost use Rattle.runs.specs.Run.{Reader, run_items};
@@ -55,8 +55,8 @@ fn put_start(start_type: u32, flags: Flags, rows: &mut [Row]) -> Progress
 // Ruled out, among others: a value that ends outside the store; an item that takes no character and does not end the run.
 #[inline(always)]
 pub fn read_item(text: &[u32], at: Progress, known: &Known, room: &mut Room) -> Progress
-    requires { (length text.now ≤ max_chars) × (at.counts.cells + (length text.now - at.position) ≤ length room.old.store.now) × (2 * length text.now ≤ length room.old.scratch.now)
-        × (at.position ≤ length text.now) × (at.counts.cells ≤ max_chars) × (at.counts.items < length room.old.rows.now) × (at.counts.items ≤ max_chars + 1) × Clear room.old.scratch.now }
+    requires { (length text.now ≤ max_chars) × (at.counts.cells + (length text.now - at.position) ≤ length room.old.store.now) × Searchable text.now room.old.scratch.now
+        × (at.position ≤ length text.now) × (at.counts.cells ≤ max_chars) × (at.counts.items < length room.old.rows.now) × (at.counts.items ≤ max_chars + 1) }
     ensures next { Next (read_token (is_name (sound_scope known.now.scope))) text.now at room.old.rows.now room.old.store.now result room.new.rows.now room.new.store.now }
     ensures clear { room.new.scratch.now ≡ room.old.scratch.now }
     ensures same { SameSlices room.old room.new }
@@ -90,8 +90,7 @@ pub fn read_item(text: &[u32], at: Progress, known: &Known, room: &mut Room) -> 
 
 // Reads all items of a run.
 fn read_items(text: &[u32], start_type: u32, flags: Flags, scope: Sound, room: &mut Room) -> Counts
-    requires { (length text.now ≤ max_chars) × (length text.now + 2 ≤ length room.old.rows.now) × (length text.now ≤ length room.old.store.now) × (2 * length text.now ≤ length room.old.scratch.now)
-        × Clear room.old.scratch.now }
+    requires { (length text.now ≤ max_chars) × (length text.now + 2 ≤ length room.old.rows.now) × (length text.now ≤ length room.old.store.now) × Searchable text.now room.old.scratch.now }
     ensures ran { Behind 0 0 room.old.rows.now room.old.store.now (run_items (read_token (is_name (sound_scope scope.entry))) start_type (flags_of flags) text.now) result.items result.cells room.new.rows.now room.new.store.now }
     ensures clear { room.new.scratch.now ≡ room.old.scratch.now }
     ensures same { SameSlices room.old room.new }

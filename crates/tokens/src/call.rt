@@ -1,5 +1,5 @@
 // The lexer: its state, and the token call with the refusals of the host.
-ghost use Rattle.std.specs.Prelude.{◌≡◌, cond, ◌*◌, ◌≤◌, length};
+ghost use Rattle.std.specs.Prelude.{◌≡◌, cond, ◌≤◌, length};
 ghost use Rattle.reading.specs.Cells.{is_one_of};
 ghost use Rattle.text.specs.Limits.{max_chars};
 ghost use Rattle.scope.specs.Sound.{sound_scope};
@@ -7,7 +7,7 @@ ghost use Rattle.lexer.specs.Lexer as spec;
 ghost use Rattle.lexer.specs.TokenType as type;
 ghost use Rattle.lexer.specs.FlagsOf.{flag_named};
 ghost use Rattle.lexer.specs.TypeNumber.{type_number};
-ghost use Rattle.lexer.specs.Fit.{Clear};
+ghost use Rattle.lexer.specs.Fit.{Searchable};
 ghost use Rattle.tokens.specs.CalledBy.{state_of, lent_of, refusal_of, Admits, Stepped, CalledBy};
 
 use crate::token;
@@ -105,7 +105,7 @@ fn admitted<'a>(
 
 // The token from the position on: the part of a text's reading that is not refused by the host.
 fn step(l: Lexer, text: &[u32], scope: Sound, out: &mut [u32], scratch: &mut [u32]) -> Called
-    requires { (length text.now ≤ max_chars) × (l.position ≤ length text.now) × (length text.now ≤ length out.old) × (2 * length text.now ≤ length scratch.old) × Clear scratch.old }
+    requires { (length text.now ≤ max_chars) × (l.position ≤ length text.now) × (length text.now ≤ length out.old) × Searchable text.now scratch.old }
     ensures { Stepped (spec.step (sound_scope scope.entry) (state_of l) text.now) out.old result out.new
         × (scratch.new ≡ scratch.old) }
 {
@@ -131,7 +131,7 @@ fn step(l: Lexer, text: &[u32], scope: Sound, out: &mut [u32], scratch: &mut [u3
     }
 }
 
-// The next token of a text: its value fills the output's front, scratch comes back zero. Refused by 1, 12, 10 or 9, output and state stay as they were.
+// The next token of a text: its value fills the output's front, scratch comes back zero. A refused call leaves output and state as they were.
 // Ruled out, among others: the first token read again and again; scratch left as it was found where the call is refused.
 pub fn next_token(
     l: Lexer,

@@ -1,5 +1,5 @@
 // The token reader: one reading of a text from its first cell on.
-ghost use Rattle.std.specs.Prelude.{◌≡◌, true, ◌&&◌, ◌||◌, List, [], ℕ, ◌+◌, ◌*◌, ◌≤◌, eqb, length};
+ghost use Rattle.std.specs.Prelude.{◌≡◌, true, ◌&&◌, ◌||◌, List, [], ℕ, ◌+◌, ◌≤◌, eqb, length};
 ghost use Rattle.reading.specs.Codes.{codes};
 ghost use Rattle.reading.specs.Look.{cell_at};
 ghost use Rattle.reading.specs.Cells.{holds, is};
@@ -17,7 +17,7 @@ ghost use Rattle.lexer.specs.Shown.{window_of};
 ghost use Rattle.words.specs.Keywords.{value_of};
 ghost use Rattle.lexer.specs.FlagsOf.{flags_of};
 ghost use Rattle.lexer.specs.TypeNumber.{type_number};
-ghost use Rattle.lexer.specs.Fit.{Clear, Searchable};
+ghost use Rattle.lexer.specs.Fit.{Searchable};
 ghost use Rattle.lexer.specs.Taken.{Gives, Takes, Taken};
 
 use lexer::flags::{Flag, Flags};
@@ -80,22 +80,8 @@ fn string_at(rest: &[u32], i: usize, q: usize, flags: Flags, out: &mut [u32]) ->
     requires { (length rest.now ≤ max_chars) × (i + 1 ≤ length rest.now) × (length rest.now ≤ length out.old) }
     ensures { Takes rest.now q (with_flags (flags_of flags) (read_string fuel [] (i + 1))) out.old result out.new }
 {
-    let literal = match lexer::string::read_string(rest, i + 1) {
-        Ok(literal) => literal,
-        Err(broken) => {
-            return Outcome {
-                read: Err(Refused {
-                    refusal: broken.refusal,
-                    carry: broken.carry,
-                }),
-                used: broken.place,
-                flags,
-                reach: q.max(broken.reach),
-            };
-        }
-    };
-    match literal {
-        Literal::Chars(_, end) => {
+    match lexer::string::read_string(rest, i + 1) {
+        Ok(Literal::Chars(_, end)) => {
             let n = lexer::string::write_string(rest, i + 1, out);
             Outcome {
                 read: Ok(Token::Chars(TokenType::String, n)),
@@ -104,8 +90,17 @@ fn string_at(rest: &[u32], i: usize, q: usize, flags: Flags, out: &mut [u32]) ->
                 reach: q.max(end + 1),
             }
         }
-        Literal::LineEnds(end) => { plain(TokenType::YyUndef, end, flags, q.max(end + 2)) }
-        Literal::TextEnds(end) => { plain(TokenType::YyEof, end, flags, q.max(end + 2)) }
+        Ok(Literal::LineEnds(end)) => plain(TokenType::YyUndef, end, flags, q.max(end + 2)),
+        Ok(Literal::TextEnds(end)) => plain(TokenType::YyEof, end, flags, q.max(end + 2)),
+        Err(broken) => Outcome {
+            read: Err(Refused {
+                refusal: broken.refusal,
+                carry: broken.carry,
+            }),
+            used: broken.place,
+            flags,
+            reach: q.max(broken.reach),
+        },
     }
 }
 
@@ -206,7 +201,7 @@ fn by_window(
     }
 }
 
-// The token that a text begins with, for a run: no name of the scope, which is not broken, has more than cap characters; scratch is found and left zero.
+// The token that a text begins with, by the names that are known; scratch is found and left zero.
 // Ruled out, among others: YyEof always; a value written behind the output's front.
 pub fn read_token(
     rest: &[u32],
@@ -215,7 +210,7 @@ pub fn read_token(
     out: &mut [u32],
     scratch: &mut [u32],
 ) -> Outcome
-    requires { (length rest.now ≤ max_chars) × (length rest.now ≤ length out.old) × (2 * length rest.now ≤ length scratch.old) × Clear scratch.old }
+    requires { (length rest.now ≤ max_chars) × (length rest.now ≤ length out.old) × Searchable rest.now scratch.old }
     ensures { Taken rest.now (is_name (sound_scope known.now.scope)) (flags_of flags) out.old result out.new
         × (scratch.new ≡ scratch.old) }
 {

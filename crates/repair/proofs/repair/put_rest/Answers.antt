@@ -12,7 +12,7 @@ pub read_to_match-m-requires : goal.read_to_match-m-requires
 read_to_match-m-requires c =
     let a = c.requires.0 in
     let p = kept_place a c.requires.1 in
-    (omega (arith, a.limit, p), omega (arith, a.rows_long, p, c.requires.3), omega (arith, a.store_long, p, c.requires.4), omega (arith, a.scratch_long, p), c.requires.3, c.requires.4, askable_accepted a, c.requires.5)
+    (omega (arith, a.limit, p), omega (arith, a.rows_long, p, c.requires.3), omega (arith, a.store_long, p, c.requires.4), record { room = omega (arith, a.scratch_long, p); clean = c.requires.5 }, c.requires.3, c.requires.4, askable_accepted a)
 
 pub copy_items-requires : goal.copy_items-requires
 copy_items-requires c =

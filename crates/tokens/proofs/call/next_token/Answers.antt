@@ -12,7 +12,7 @@ step-requires c =
     let x = c.args in
     let a = rw c.in-Ok.is at c.admitted.ensures in
     let b = accepted (lent_of x.scope) x.l.position (length x.text.now) (length x.out.now) (length c.fill.new.self) a.0 in
-    (b.0, b.1, omega (arith, b.2), omega (arith, b.3), record { all = filled (c.fill.ensures.after (λ y e. e)) (sym c.fill.ensures.len) })
+    (b.0, b.1, omega (arith, b.2), record { room = omega (arith, b.3); clean = record { all = filled (c.fill.ensures.after (λ y e. e)) (sym c.fill.ensures.len) } })
 
 pub returns-in-Ok : goal.returns-in-Ok
 returns-in-Ok c =
