@@ -12,6 +12,7 @@ use scope::lent::Lent;
 use scope::scope::{Scope, Slot};
 use std::io::Read;
 use std::{fmt, io};
+use text::refusal::Refusal;
 
 // Of a longer rule the first bytes are read.
 const MAX_INPUT: usize = 128;
@@ -34,7 +35,8 @@ impl fmt::Display for Line {
     }
 }
 
-fn print_refusal(rt: &impl Print, n: u32, place: usize) -> io::Result<()> {
+fn print_refusal(rt: &impl Print, refusal: Refusal, place: usize) -> io::Result<()> {
+    let n = u32::from(refusal);
     println!(rt; "R{n} {place}")
 }
 
@@ -42,7 +44,7 @@ fn print_refusal(rt: &impl Print, n: u32, place: usize) -> io::Result<()> {
 fn print_rows(rt: &impl Print, rows: &[Row]) -> io::Result<()> {
     let page = match page::page_of(rows) {
         Ok(page) => page,
-        Err(refusal) => return print_refusal(rt, u32::from(refusal), 0),
+        Err(refusal) => return print_refusal(rt, refusal, 0),
     };
     for (i, item) in page.items.iter().take(rows.len()).enumerate() {
         let line = Line(*item);
@@ -76,7 +78,7 @@ fn print_text(rt: &impl Print, text: &[u32]) -> io::Result<()> {
         &mut room,
     ) {
         Ok(counts) => print_rows(rt, &room.rows[..counts.items]),
-        Err(refusal) => print_refusal(rt, u32::from(refusal), 0),
+        Err(refusal) => print_refusal(rt, refusal, 0),
     }
 }
 
@@ -86,6 +88,6 @@ fn main(rt: HostRuntime) -> io::Result<()> {
     let mut cells = [0; MAX_INPUT];
     match text::utf8::open_bytes(&bytes, &mut cells) {
         Ok(text) => print_text(&rt, &cells[..text.chars]),
-        Err(refused) => print_refusal(&rt, u32::from(refused.refusal), refused.place),
+        Err(refused) => print_refusal(&rt, refused.refusal, refused.place),
     }
 }

@@ -1,6 +1,7 @@
 // The lines of a record, and the line of a refused opening.
 ghost use Rattle.std.specs.Prelude.{◌≡◌, cond, [], ◌++◌, ◌+◌, ◌≤◌, eqb, length};
 ghost use Rattle.reading.specs.Codes.{codes};
+ghost use Rattle.text.specs.Refusals.{number_of};
 ghost use Rattle.runs.specs.Record.{item_of, unpack};
 ghost use Rattle.runs.specs.Print as spec;
 ghost use Rattle.printing.specs.Room.{max_printed};
@@ -12,6 +13,7 @@ use crate::value::Field;
 use runs::item::{Item, Row};
 use runs::record::Record;
 use text::chars::Char;
+use text::refusal::Refusal;
 
 // Writes a decimal number and a space.
 fn put_field(n: usize, out: &mut Output)
@@ -59,12 +61,12 @@ pub fn put_lines(all: Record, out: &mut Output)
 
 // Writes the line of a refused opening.
 // Ruled out, among others: the place before the number; no line end.
-pub fn put_refused(n: u32, place: usize, out: &mut Output)
-    requires { length out.old + length (spec.refused_line n place) ≤ max_printed }
-    ensures { out.new ≡ out.old ++ spec.refused_line n place }
+pub fn put_refused(refusal: Refusal, place: usize, out: &mut Output)
+    requires { length out.old + length (spec.refused_line (number_of refusal) place) ≤ max_printed }
+    ensures { out.new ≡ out.old ++ spec.refused_line (number_of refusal) place }
 {
     out.push(Char::CAPITAL_R);
-    put_field(n as usize, out);
+    put_field(u32::from(refusal) as usize, out);
     number::put_number(10, place, out);
     out.push(Char::LINE_FEED);
 }

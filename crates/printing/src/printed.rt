@@ -58,11 +58,11 @@ pub fn put_printed(bytes: &[u8], out: &mut Output)
     ensures { out.new ≡ spec.printed bytes.now }
 {
     if MAX_INPUT < bytes.len() {
-        return line::put_refused(u32::from(Refusal::TooLong), 0, out);
+        return line::put_refused(Refusal::TooLong, 0, out);
     }
     let mut cells = [0; MAX_INPUT];
     match text::utf8::open_bytes(bytes, &mut cells) {
         Ok(text) => put_record(&cells[..text.chars], out),
-        Err(refused) => line::put_refused(u32::from(refused.refusal), refused.place, out),
+        Err(refused) => line::put_refused(refused.refusal, refused.place, out),
     }
 }

@@ -40,7 +40,7 @@ fn read(rt: &impl Print, r: Read, place: usize) -> io::Result<()> {
             print!(rt; ", value cells {n}")
         }
         Err(broken) => {
-            let refused = Refused(u32::from(broken.refusal));
+            let refused = Refused(broken.refusal);
             print!(rt; "{refused} at {place}")?;
             match broken.refusal {
                 Refusal::NoHexDigit | Refusal::NoScalarValue | Refusal::NoSecondHalf => {

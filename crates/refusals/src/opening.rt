@@ -70,10 +70,7 @@ fn answer(rt: &impl Print, r: Result<Text, utf8::Refused>, out: &[u32]) -> io::R
         }
         Err(utf8::Refused { refusal, place }) => {
             let whole = told::kept(filled::is_filled(out, 0, FILL));
-            println!(rt;
-                "{} at {place}; output {whole}",
-                Refused(u32::from(refusal))
-            )
+            println!(rt; "{} at {place}; output {whole}", Refused(refusal))
         }
     }
 }

@@ -16,7 +16,7 @@ fn page_read(rt: &impl Print, rows: &[Row], n: usize) -> io::Result<()> {
             let last = p.items[Page::ITEMS - 1].number;
             println!(rt; "read; first {first}, last {last}")
         }
-        Err(refusal) => println!(rt; "{}; first 0, last 0", Refused(u32::from(refusal))),
+        Err(refusal) => println!(rt; "{}; first 0, last 0", Refused(refusal)),
     }
 }
 
@@ -27,7 +27,7 @@ fn page_written(rt: &impl Print, p: Page, n: usize) -> io::Result<()> {
     print!(rt; "{n}: ")?;
     if let Err(refusal) = written {
         let whole = told::kept(filled::are_filled(&rows, 0, FILL));
-        return println!(rt; "{}; rows {whole}", Refused(u32::from(refusal)));
+        return println!(rt; "{}; rows {whole}", Refused(refusal));
     }
     let first = rows[0][Item::NUMBER];
     let last = rows[Page::ITEMS - 1][Item::NUMBER];

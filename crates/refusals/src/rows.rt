@@ -29,7 +29,7 @@ pub fn answer(
         Err(refusal) => {
             let rows = told::kept(filled::are_filled(all, 0, FILL));
             let values = told::kept(filled::is_filled(store, 0, FILL));
-            let refused = Refused(u32::from(refusal));
+            let refused = Refused(refusal);
             return println!(rt; "{refused}; rows {rows}, store {values}, {scratch}");
         }
     };

@@ -16,7 +16,7 @@ impl Display for Answer {
     fn fmt<W: fmt::Write>(&self, f: &mut fmt::Formatter<W>) -> fmt::Result {
         match self.0 {
             Ok(_) => f.write_str("done"),
-            Err(refusal) => write!(f, "{}", Refused(u32::from(refusal))),
+            Err(refusal) => write!(f, "{}", Refused(refusal)),
         }
     }
 }

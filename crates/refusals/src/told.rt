@@ -4,6 +4,7 @@ ghost use Rattle.std.specs.Prelude.{◌≡◌};
 use scope::scope::Scope;
 use std::fmt;
 use std::fmt::{Display, UpperHex};
+use text::refusal::Refusal;
 
 // A scope of so many empty contexts; over 32 it is broken.
 pub fn empty_scope(contexts: usize) -> Scope
@@ -44,13 +45,13 @@ impl Display for Front<'_> {
     }
 }
 
-// The number of a refusal.
+// A refusal, told by its number.
 #[derive(Clone, Copy)]
-pub struct Refused(pub u32);
+pub struct Refused(pub Refusal);
 
 impl Display for Refused {
     fn fmt<W: fmt::Write>(&self, f: &mut fmt::Formatter<W>) -> fmt::Result {
-        write!(f, "refused with {}", self.0)
+        write!(f, "refused with {}", u32::from(self.0))
     }
 }
 
