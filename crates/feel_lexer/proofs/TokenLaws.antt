@@ -1,5 +1,5 @@
 -- The token call through numbers: refused for a form, or what the token call answers. The facts of a reading bound its value.
-use Rattle.std.specs.Prelude.{Option, None, Some}
+use Rattle.std.specs.Prelude.{Option, None, Some, Ok, Err}
 use mathlib.Core.Path.{◌≡◌, refl, sym, ap, ◌∙◌, subst}
 use mathlib.Core.Bool.{true, ◌||◌, ◌&&◌}
 use mathlib.Core.List.{List, ◌++◌}
@@ -12,6 +12,8 @@ use Rattle.reading.specs.Look.{run}
 use Rattle.reading.specs.Cells.{maybe}
 use Rattle.reading.proofs.Test.{by_test}
 use Rattle.text.specs.Limits.{max_chars}
+use Rattle.text.specs.Refusals.{number_of}
+use Rattle.text.specs.declared.refusal.Refusal.{Refusal}
 use Rattle.scope.specs.Keys.{is_name}
 use Rattle.scope.specs.Lent.{Lent, is_broken, scope_of}
 use Rattle.scope.specs.Answers.{lent}
@@ -21,12 +23,16 @@ use Rattle.lexer.specs.Answered.{Told, plain, boolean, numeric, letters, broken,
 use Rattle.lexer.specs.Lexer as spec
 use Rattle.lexer.specs.Lexer.{State, step, next_token}
 use Rattle.lexer.specs.Token.{read_token}
+use Rattle.lexer.specs.TokenType as type
+use Rattle.lexer.specs.TypeNumber.{type_number}
+use Rattle.lexer.specs.declared.token_type.TokenType.{TokenType}
 use Rattle.lexer.proofs.TokenFacts.{sound}
 use Rattle.lexer.proofs.AnsweredLaws.{three}
 use Rattle.tokens.specs.CalledBy.{state_of, CalledBy}
 use Rattle.tokens.specs.declared.call.Lexer.{Lexer}
 use Rattle.tokens.specs.declared.call.Called.{Called}
-use Rattle.feel_lexer.specs.Numbers.{counts_of, lent_of, state_at, lexer_numbers, is_lexer}
+use Rattle.runs.specs.Coded.{kind_numbers, kind_from, value_from}
+use Rattle.feel_lexer.specs.Numbers.{answer, counts_of, lent_of, state_at, lexer_numbers, is_lexer}
 use Rattle.feel_lexer.specs.Exported.{is_answer, feel_next_token, refusal_number, read_answer, number_from, answer_from}
 
 module _ (l : Lent) (s : State) (t output scratch : List ℕ) where
@@ -96,3 +102,21 @@ module _ (lexer scope : List ℕ) (slots names : List (List ℕ)) (text output s
         let v : lexer' ≡ lexer_numbers answered.next = e ∙ ap lexer_numbers w.next in
         let y = same_answer w.read c.place in
         rw (h, v, k, m, y.0, y.1, w.place, w.left, w.clean)
+
+-- What is told of a token's type, or of why it is refused, beside the numbers of its value.
+abbrev row_of_read : Told → ℕ → ℕ → List ℕ
+row_of_read a p k = let v = value_from a in answer p k v.length v.before v.after v.exponent v.extra 0
+
+pub token_told : (a : Told) (k : TokenType) → kind_numbers (Ok k) ≡ kind_from a → (p : ℕ) → (0 ≡ number_from a) × (row_of_read a p (type_number k) ≡ answer_from a p)
+token_told (plain n) k e p = let q : type_number k ≡ n = cc in (refl, rw q)
+token_told (boolean b) k e p = let q : type_number k ≡ type.Boolean = cc in (refl, rw q)
+token_told (numeric before after minus exponent) k e p = let q : type_number k ≡ type.Numeric = cc in (refl, rw q)
+token_told (letters n m) k e p = let q : type_number k ≡ n = cc in (refl, rw q)
+token_told (broken n c) k e p = absurd (cc)
+
+pub refusal_told : (a : Told) (r : Refusal) → kind_numbers (Err r) ≡ kind_from a → (p : ℕ) → (number_of r ≡ number_from a) × (row_of_read a p 0 ≡ answer_from a p)
+refusal_told (broken n c) r e p = let q : number_of r ≡ n = cc in (q, refl)
+refusal_told (plain n) r e p = absurd (cc)
+refusal_told (boolean b) r e p = absurd (cc)
+refusal_told (numeric before after minus exponent) r e p = absurd (cc)
+refusal_told (letters n m) r e p = absurd (cc)

@@ -7,9 +7,9 @@ ghost use Rattle.feel_lexer.specs.Exported as spec;
 
 use crate::answer::Answer;
 use crate::{answer, state};
-use lexer::token::{Read, Token};
-use lexer::token_type::TokenType;
-use runs::call;
+use lexer::token::Read;
+use runs::item::Value;
+use runs::{call, item};
 use scope::lent::Lent;
 use scope::scope::{Scope, Slot};
 use text::refusal::Refusal;
@@ -24,60 +24,27 @@ fn ready(lexer: &[usize], answer: &mut [usize]) -> Result<Lexer, Refusal>
 }
 
 // Writes the answer of what was read at a place: a token, or the carry of a refusal, which is given back.
-#[tactic(auto, unfolding(crate::specs::Exported::number))]
+#[tactic(auto, using(crate::proofs::TokenLaws::token_told, crate::proofs::TokenLaws::refusal_told), unfolding(crate::specs::Exported::number))]
 fn put_read(read: Read, place: usize, answer: &mut [usize]) -> Result<(), Refusal>
     requires { (cell_count (told read) ≤ max_chars) × (length answer.old ≡ answer_size) }
     ensures { (spec.number result ≡ spec.number_from (told read)) × (answer.new ≡ spec.answer_from (told read) place) }
 {
-    let at = Answer {
+    let (outcome, token_type) = match item::kind(read) {
+        Ok(kind) => (Ok(()), u32::from(kind)),
+        Err(refusal) => (Err(refusal), 0),
+    };
+    let value = Value::of(read);
+    Answer {
         place,
-        ..Answer::EMPTY
-    };
-    let (outcome, told) = match read {
-        Ok(Token::Plain(kind)) => (
-            Ok(()),
-            Answer {
-                token_type: u32::from(kind) as usize,
-                ..at
-            },
-        ),
-        Ok(Token::Boolean(b)) => (
-            Ok(()),
-            Answer {
-                token_type: u32::from(TokenType::Boolean) as usize,
-                extra: usize::from(b),
-                ..at
-            },
-        ),
-        Ok(Token::Numeric(before, after, minus, exponent)) => (
-            Ok(()),
-            Answer {
-                token_type: u32::from(TokenType::Numeric) as usize,
-                length: before + after + exponent,
-                before,
-                after,
-                exponent,
-                extra: usize::from(minus),
-                ..at
-            },
-        ),
-        Ok(Token::Chars(kind, n)) => (
-            Ok(()),
-            Answer {
-                token_type: u32::from(kind) as usize,
-                length: n,
-                ..at
-            },
-        ),
-        Err(refused) => (
-            Err(refused.refusal),
-            Answer {
-                extra: refused.carry as usize,
-                ..at
-            },
-        ),
-    };
-    told.write(answer);
+        token_type: token_type as usize,
+        length: value.length,
+        before: value.before,
+        after: value.after,
+        exponent: value.exponent,
+        extra: value.extra as usize,
+        items: 0,
+    }
+    .write(answer);
     outcome
 }
 
