@@ -4,7 +4,7 @@ ghost use Rattle.text.specs.Limits.{max_chars};
 ghost use Rattle.runs.specs.Record.{item_of, store_of};
 ghost use Rattle.runs.specs.Edit.{moved_item};
 ghost use Rattle.runs.specs.Copied.{edit_of, moved_row, moved_items, Movable, Copyable, Copied, Behind};
-ghost use Rattle.runs.specs.Lending.{SameSlices};
+ghost use Rattle.runs.specs.Lending.{Returned};
 
 use runs::call::Counts;
 use runs::edit::Edit;
@@ -29,8 +29,7 @@ fn copy_item(row: Row, old_store: &[u32], e: Edit, at: Counts, room: &mut Room) 
     requires { Movable (edit_of e) (length old_store.now) row × (at.items < length room.old.rows.now) × (at.cells ≤ max_chars)
         × (at.cells + length (item_of old_store.now row).value ≤ length room.old.store.now) }
     ensures copied { Copied (moved_item (edit_of e) (item_of old_store.now row)) at.items at.cells room.old.rows.now room.old.store.now result.items result.cells room.new.rows.now room.new.store.now }
-    ensures scratch { room.new.scratch.now ≡ room.old.scratch.now }
-    ensures same { SameSlices room.old room.new }
+    ensures back { Returned room.old room.new }
 {
     let position = e.moved(row[Item::POSITION] as usize);
     let reach = e.moved(row[Item::REACH] as usize);
@@ -52,8 +51,7 @@ pub fn copy_items(old: Record, e: Edit, written: Counts, room: &mut Room) -> Cou
         × (written.items + length old.rows.now ≤ length room.old.rows.now) × (written.cells + length (store_of (moved_items (edit_of e) old.rows.now old.store.now)) ≤ max_chars)
         × (written.cells + length (store_of (moved_items (edit_of e) old.rows.now old.store.now)) ≤ length room.old.store.now) }
     ensures behind { Behind written.items written.cells room.old.rows.now room.old.store.now (moved_items (edit_of e) old.entry.rows.now old.entry.store.now) result.items result.cells room.new.rows.now room.new.store.now }
-    ensures scratch { room.new.scratch.now ≡ room.old.scratch.now }
-    ensures same { SameSlices room.old room.new }
+    ensures back { Returned room.old room.new }
 {
     let mut at = written;
     for row in old.rows {

@@ -8,7 +8,7 @@ ghost use Rattle.lexer.specs.FlagsOf.{flags_of};
 ghost use Rattle.lexer.specs.Token.{read_token};
 ghost use Rattle.runs.specs.Repair.{repair_items};
 ghost use Rattle.runs.specs.Record.{item_of, store_of};
-ghost use Rattle.runs.specs.Lending.{lent_of, room_of, SameSlices};
+ghost use Rattle.runs.specs.Lending.{lent_of, room_of, SameSlices, Returned};
 ghost use Rattle.repair.specs.Asking.{request_of, KeptRows, Askable, fresh_behind};
 ghost use Rattle.runs.specs.Copied.{edit_of, Copyable, Behind};
 ghost use Rattle.repair.specs.Match.{Accepted, place_at, Passed, Before, Ahead, Looked};
@@ -72,8 +72,7 @@ fn read_fresh(part: &[u32], base: usize, at: Progress, known: &Known, room: &mut
     requires { (base + length part.now ≤ max_chars) × (at.counts.cells + (length part.now - at.position) ≤ length room.old.store.now) × Searchable part.now room.old.scratch.now
         × (at.position ≤ length part.now) × (at.counts.cells ≤ max_chars) × (at.counts.items < length room.old.rows.now) × (at.counts.items ≤ max_chars + 1) }
     ensures fresh { Fresh (read_token (is_name (sound_scope known.now.scope))) part.now base at room.old.rows.now room.old.store.now result room.new.rows.now room.new.store.now }
-    ensures clear { room.new.scratch.now ≡ room.old.scratch.now }
-    ensures same { SameSlices room.old room.new }
+    ensures back { Returned room.old room.new }
 {
     let next = run::read_item(part, at, known, room);
     let Counts { items, cells } = at.counts;
@@ -98,8 +97,7 @@ fn read_to_match(
     requires { (base + length part.now ≤ max_chars) × (kept.items + length part.now + 1 ≤ length room.old.rows.now) × (kept.cells + length part.now ≤ length room.old.store.now) × Searchable part.now room.old.scratch.now
         × (kept.items ≤ base + 1) × (kept.cells ≤ base) × Accepted old_rows.now }
     ensures to_match { ToMatch (read_token (is_name (sound_scope scope.entry))) (edit_of e) old_rows.now part.now base (flags_of flags) kept.items kept.cells room.old.rows.now room.old.store.now result room.new.rows.now room.new.store.now }
-    ensures clear { room.new.scratch.now ≡ room.old.scratch.now }
-    ensures same { SameSlices room.old room.new }
+    ensures back { Returned room.old room.new }
 {
     let known = Known::of(scope);
     let mut at = Progress {
@@ -131,8 +129,7 @@ fn put_kept(old: Record, room: &mut Room) -> Counts
     requires { Copyable (put_at 0) old.rows.now old.store.now × (length old.rows.now ≤ length room.old.rows.now)
         × (length (store_of (map (item_of old.store.now) old.rows.now)) ≤ max_chars) × (length (store_of (map (item_of old.store.now) old.rows.now)) ≤ length room.old.store.now) }
     ensures behind { Behind 0 0 room.old.rows.now room.old.store.now (map (item_of old.entry.store.now) old.entry.rows.now) result.items result.cells room.new.rows.now room.new.store.now }
-    ensures scratch { room.new.scratch.now ≡ room.old.scratch.now }
-    ensures same { SameSlices room.old room.new }
+    ensures back { Returned room.old room.new }
 {
     let none = Edit {
         from: 0,
@@ -157,8 +154,7 @@ fn put_rest(
     ensures behind { Behind kept.items kept.cells room.old.rows.now room.old.store.now
         (fresh_behind (read_token (is_name (sound_scope scope.entry))) (edit_of e) old.entry.store.now part.now (map (item_of old.entry.store.now) old.entry.rows.now) (get_or old.entry.rows.now (k - 1) []))
         result.items result.cells room.new.rows.now room.new.store.now }
-    ensures clear { room.new.scratch.now ≡ room.old.scratch.now }
-    ensures same { SameSlices room.old room.new }
+    ensures back { Returned room.old room.new }
 {
     let last = old.rows[k - 1];
     let base = last[Item::POSITION] as usize;
@@ -177,8 +173,7 @@ fn put_items(old: Record, e: Edit, part: &[u32], scope: Sound, room: &mut Room) 
     ensures behind { Behind 0 0 room.old.rows.now room.old.store.now
         (repair_items (read_token (is_name (sound_scope scope.entry))) (edit_of e) (map (item_of old.entry.store.now) old.entry.rows.now) part.now)
         result.items result.cells room.new.rows.now room.new.store.now }
-    ensures clear { room.new.scratch.now ≡ room.old.scratch.now }
-    ensures same { SameSlices room.old room.new }
+    ensures back { Returned room.old room.new }
 {
     let k = kept::count_kept(old.rows, e.from);
     let front = Record {

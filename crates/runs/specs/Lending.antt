@@ -21,3 +21,8 @@ pub record SameSlices (r r' : Coded) : Type 0 where
   pub rows : r'.rows.ghost_name ≡ r.rows.ghost_name
   pub store : r'.store.ghost_name ≡ r.store.ghost_name
   pub scratch : r'.scratch.ghost_name ≡ r.scratch.ghost_name
+
+-- The slices are those that were lent, and scratch holds what it held.
+pub record Returned (r r' : Coded) : Type 0 where
+  pub same : SameSlices r r'
+  pub clean : r'.scratch.now ≡ r.scratch.now

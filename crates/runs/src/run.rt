@@ -9,7 +9,7 @@ ghost use Rattle.lexer.specs.Token.{read_token};
 ghost use Rattle.runs.specs.Run.{Reader, run_items};
 ghost use Rattle.runs.specs.Copied.{Behind};
 ghost use Rattle.runs.specs.Ran.{Ran, Next, Stands};
-ghost use Rattle.runs.specs.Lending.{lent_of, room_of, SameSlices};
+ghost use Rattle.runs.specs.Lending.{lent_of, room_of, SameSlices, Returned};
 
 use crate::call::Counts;
 use crate::item::{Item, Row};
@@ -58,8 +58,7 @@ pub fn read_item(text: &[u32], at: Progress, known: &Known, room: &mut Room) -> 
     requires { (length text.now ≤ max_chars) × (at.counts.cells + (length text.now - at.position) ≤ length room.old.store.now) × Searchable text.now room.old.scratch.now
         × (at.position ≤ length text.now) × (at.counts.cells ≤ max_chars) × (at.counts.items < length room.old.rows.now) × (at.counts.items ≤ max_chars + 1) }
     ensures next { Next (read_token (is_name (sound_scope known.now.scope))) text.now at room.old.rows.now room.old.store.now result room.new.rows.now room.new.store.now }
-    ensures clear { room.new.scratch.now ≡ room.old.scratch.now }
-    ensures same { SameSlices room.old room.new }
+    ensures back { Returned room.old room.new }
 {
     let Counts { items, cells } = at.counts;
     let o = tokens::token::read_token(
@@ -92,8 +91,7 @@ pub fn read_item(text: &[u32], at: Progress, known: &Known, room: &mut Room) -> 
 fn read_items(text: &[u32], start_type: u32, flags: Flags, scope: Sound, room: &mut Room) -> Counts
     requires { (length text.now ≤ max_chars) × (length text.now + 2 ≤ length room.old.rows.now) × (length text.now ≤ length room.old.store.now) × Searchable text.now room.old.scratch.now }
     ensures ran { Behind 0 0 room.old.rows.now room.old.store.now (run_items (read_token (is_name (sound_scope scope.entry))) start_type (flags_of flags) text.now) result.items result.cells room.new.rows.now room.new.store.now }
-    ensures clear { room.new.scratch.now ≡ room.old.scratch.now }
-    ensures same { SameSlices room.old room.new }
+    ensures back { Returned room.old room.new }
 {
     let known = Known::of(scope);
     let mut at = put_start(start_type, flags, room.rows);

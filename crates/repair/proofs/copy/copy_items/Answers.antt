@@ -16,6 +16,5 @@ copy_item-at-requires c =
 pub loop-row-preserved : goal.loop-row-preserved
 loop-row-preserved c = record {
   behind = copying_more (edit_of c.args.e) c.args.old.rows.now c.args.old.store.now c.loop-row.row-index c.loop-row.invariant.behind (omega arith) c.copy_item-at.ensures.copied c.requires.1 c.requires.3;
-  scratch = c.copy_item-at.ensures.scratch ∙ c.loop-row.invariant.scratch;
-  same = search rules;
+  back = record { same = search rules; clean = c.copy_item-at.ensures.back.clean ∙ c.loop-row.invariant.back.clean };
 }

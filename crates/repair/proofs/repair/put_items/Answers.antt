@@ -27,7 +27,7 @@ put_rest-requires c =
     let a = c.requires.0 in
     let t = kept_rows c.args.e.from c.args.old.rows.now c.count_kept-k.ensures in
     let b = c.put_kept-kept.ensures.behind in
-    let s = c.put_kept-kept.ensures.scratch in
+    let s = c.put_kept-kept.ensures.back.clean in
     (askable_same a b.as_many b.as_long (ap length s), t, omega (arith, t.within), omega (arith, b.count, kept-count a t, kept_few a t (omega (arith, t.within))), omega (arith, b.cells, kept-cells a t), subst Clear (sym s) c.requires.1)
 
 pub returns-clause-behind : goal.returns-clause-behind

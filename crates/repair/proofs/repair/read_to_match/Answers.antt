@@ -7,7 +7,7 @@ use Rattle.repair.proofs.FreshLaws.{seeking_none, seeking_end, seeking_match, se
 use Rattle.repair.proofs.repair.read_to_match.Goals as goal
 
 pub loop-at-init : goal.loop-at-init
-loop-at-init c = record { seeking = seeking_none (omega (arith, c.requires.1)) (omega (arith, c.requires.2)); clear = refl; same = search rules }
+loop-at-init c = record { seeking = seeking_none (omega (arith, c.requires.1)) (omega (arith, c.requires.2)); back = search rules }
 
 pub returns-then-is_match-clause-to_match : goal.returns-then-is_match-clause-to_match
 returns-then-is_match-clause-to_match c = seeking_match c.loop-at.invariant.seeking (not-true _ c.loop-at-test.true) (c.is_match.ensures.found c.if-is_match.true) refl refl
@@ -20,8 +20,7 @@ loop-at-preserved c =
     let fresh = rw c.of-known.ensures at c.read_fresh-at.ensures.fresh in
     record {
       seeking = seeking_more i going c.pass_old-j.ensures.0 (c.is_match.ensures.missed c.if-is_match.false) fresh (omega (arith, i.behind.count, i.behind.as_many, f, i.within, c.requires.1)) (omega (arith, i.behind.cells, i.behind.as_long, i.short, i.within, c.requires.2));
-      clear = c.read_fresh-at.ensures.clear ∙ c.loop-at.invariant.clear;
-      same = search rules;
+      back = record { same = search rules; clean = c.read_fresh-at.ensures.back.clean ∙ c.loop-at.invariant.back.clean };
     }
 
 pub returns-clause-to_match : goal.returns-clause-to_match

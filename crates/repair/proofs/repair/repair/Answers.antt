@@ -24,4 +24,4 @@ pub returns-clause-repaired : goal.returns-clause-repaired
 returns-clause-repaired c =
     let whole = sym c.is_broken.ensures ∙ c.if-is_broken.false in
     let b = rw (ap scope_of c.in_ok-sound.ensures.scope) at c.put_items.ensures.behind in
-    repair_made _ (request_of c.args.request) _ _ _ c.clear.ensures whole c.in_ok-sound.ensures.answer b c.put_items.ensures.clear
+    repair_made _ (request_of c.args.request) _ _ _ c.clear.ensures whole c.in_ok-sound.ensures.answer b c.put_items.ensures.back.clean

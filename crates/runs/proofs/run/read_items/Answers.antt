@@ -7,6 +7,5 @@ use Rattle.runs.proofs.run.read_items.Goals as goal
 pub loop-at-preserved : goal.loop-at-preserved
 loop-at-preserved c = record {
   stands = stands_more c.loop-at.invariant.stands (rw c.of-known.ensures at c.read_item-at.ensures.next) (not-true _ c.loop-at-test.true) c.requires.1 c.requires.2;
-  clear = c.read_item-at.ensures.clear ∙ c.loop-at.invariant.clear;
-  same = search rules;
+  back = record { same = search rules; clean = c.read_item-at.ensures.back.clean ∙ c.loop-at.invariant.back.clean };
 }

@@ -13,4 +13,4 @@ returns-in_err-sound-clause-ran c =
 pub returns-clause-ran : goal.returns-clause-ran
 returns-clause-ran c =
     let b = rw (ap scope_of c.in_ok-sound.ensures.scope) at c.read_items.ensures.ran in
-    run_made _ _ _ _ _ _ _ c.clear.ensures c.in_ok-sound.ensures.answer b c.read_items.ensures.clear
+    run_made _ _ _ _ _ _ _ c.clear.ensures c.in_ok-sound.ensures.answer b c.read_items.ensures.back.clean
