@@ -1,4 +1,4 @@
-// Run and repair.
+// Run and repair. Each checks and lends by itself: one frame with a closure over the room has to tell in its clauses which slices come back, and is longer than what it saves.
 ghost use Rattle.std.specs.Prelude.{◌≡◌};
 ghost use Rattle.repair.specs.Asking.{asked};
 ghost use Rattle.feel_lexer.specs.Numbers.{placed};
