@@ -63,7 +63,7 @@ pub fn number(outcome: Result<(), Refusal>) -> u32
     }
 }
 
-// Refuses an answer that is not of its size, and what else does not hold. One of its size is set to place 0.
+// Refuses an answer that is not of its size, and what else does not hold, which comes behind it. One of its size is set to place 0.
 pub fn checked(answer: &mut [usize], more: bool) -> Result<(), Refusal>
     ensures { Checked more answer.old result answer.new }
 {

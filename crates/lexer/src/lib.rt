@@ -1,4 +1,5 @@
 // The lexer: from the cells of a text to tokens.
+// The definitions read with fuel for a text of the limit's length, so that a text is no longer is asked of the text itself, in each contract that needs it.
 
 #![tactic(auto)]
 

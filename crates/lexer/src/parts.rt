@@ -34,7 +34,7 @@ fn part_start(rest: &[u32], i: usize) -> usize
     look::end_of::<Whitespace>(rest, i)
 }
 
-// The next part of a name from i on, if there is one.
+// The next part of a name from i on, if there is one. Each walk over parts stops for a reason of its own, so each asks for the next by itself.
 // Ruled out, among others: U+1680 right behind a symbol skipped as whitespace; two symbols taken for one part.
 pub fn next_part(rest: &[u32], i: usize) -> Option<Range<usize>>
     requires { i ≤ length rest.now }
@@ -68,7 +68,7 @@ pub fn count_parts(rest: &[u32], from: usize) -> Walked
     }
 }
 
-// Writes the first n parts of the name at `from` to the front of out: as `Name::new` joins them, or by spaces.
+// Writes the first n parts of the name at `from` to the front of out: as `Name::new` joins them if new, or by spaces. The definition `spelling` takes the same Boolean.
 // Ruled out, among others: a space between all parts; a part left untrimmed.
 pub fn write_parts(rest: &[u32], from: usize, n: usize, new: bool, out: &mut [u32]) -> usize
     requires { (from ≤ length rest.now) × (length (spelling new (prefix rest.now n from)) ≤ length out.old) }

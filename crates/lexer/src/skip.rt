@@ -33,7 +33,7 @@ fn ends_at(rest: &[u32], i: usize) -> bool
     look::is_at(rest, i, Char::STAR) && look::is_at(rest, i + 1, Char::SLASH)
 }
 
-// The place behind a block comment whose inside starts at `from`, or the end.
+// The place behind a block comment whose inside starts at `from`, or the end. The place is what is answered, so it is the index.
 fn block_end(rest: &[u32], from: usize) -> usize
     requires { (length rest.now ≤ max_chars) × (from ≤ length rest.now) }
     ensures { BlockEnds rest.now from result }

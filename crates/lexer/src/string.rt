@@ -204,7 +204,7 @@ impl Class for Plain {
     }
 }
 
-// How many characters a string has and where it ends; or where a line's end or the text's end broke it off.
+// How many characters a string has and where it ends; or where a line's end or the text's end broke it off, as a piece tells it.
 #[derive(Clone, Copy)]
 pub enum Literal {
     Chars(usize, usize),

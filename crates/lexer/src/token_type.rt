@@ -147,7 +147,7 @@ impl TokenType {
         TokenType::Dot,
     ];
 
-    // The numbers of the start types, which a match tells apart.
+    // The numbers of the start types, by which a match tells the host's number apart.
     pub const START_EXPRESSION: u32 = TokenType::StartExpression as u32;
 
     pub const START_BOXED_EXPRESSION: u32 = TokenType::StartBoxedExpression as u32;

@@ -6,6 +6,7 @@ use scope::scope::{Scope, Slot};
 use search::keys;
 use text::refusal::Refusal;
 
+// A scope over rows of zeros, to which a line's calls are made; that of the program refusals stands over filled rows.
 #[derive(Clone, Copy)]
 pub struct Held {
     scope: Scope,

@@ -42,7 +42,7 @@ pub fn cut_after(cut: u32, d: u32, kept: bool) -> u32
     }
 }
 
-// Whether the name of e, whose place is i, stood before at its level.
+// Whether the name of e, whose place is i, stood before at its level. The walk of `is_repeated` goes the other way, over another definition.
 fn is_seen<E: Entries>(e: Entry, all: &E, i: usize) -> bool
     requires { i ≤ length (E.entries all.now) }
     ensures { result ≡ is_repeated (viewed e.entry) (earlier i (E.entries all.now) []) }

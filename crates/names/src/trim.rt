@@ -19,7 +19,7 @@ pub(crate) fn trim_front(cells: &[u32]) -> &[u32]
     rest
 }
 
-// The cells without the white space at the back.
+// The cells without the white space at the back: the same by the other end, which no pattern is for both.
 pub(crate) fn trim_back(cells: &[u32]) -> &[u32]
     ensures value { result.now ≡ spec.trim_back cells.now }
     ensures place { result.now ≡ take (length result.now) cells.now }

@@ -28,7 +28,7 @@ use search::known::Known;
 use text::chars::Char;
 use text::refusal::Refusal;
 
-// Whether the next part from i on is the word.
+// Whether the next part from i on is the word. A match, since the proof goes by its two cases.
 fn next_is(rest: &[u32], i: usize, word: &[u8]) -> bool
     requires { i ≤ length rest.now }
     ensures { result ≡ spec.starts_with word.now (prefix rest.now 1 i) }

@@ -5,7 +5,7 @@ ghost use Rattle.records.specs.Stored.{stored_of, row_from};
 use lexer::flags::Flags;
 use runs::item::{Item, Row};
 
-// 01: type or refusal, position and flags after, and reach; the value's start and length in the store, a number's three lengths, and a Boolean, a sign or a carry.
+// 01: type or refusal, position and flags after, and reach; the value's start and length in the store, a number's three lengths, and a Boolean, a sign or a carry. The fields are the lent row's numbers by name.
 #[derive(Clone, Copy, Default)]
 pub struct Stored {
     pub refused: bool,

@@ -43,7 +43,7 @@ fn is_before(e: Edit, q: usize, p: usize) -> bool
     q < e.to || e.moved(q) < p
 }
 
-// The first old row from `first` on that is moved to p or behind it; the last row at the latest.
+// The first old row from `first` on that is moved to p or behind it; the last row at the latest. A place, which is kept from one search to the next.
 fn pass_old(old_rows: &[Row], first: usize, e: Edit, p: usize) -> usize
     requires { Passed (edit_of e) old_rows.now first p }
     ensures { Passed (edit_of e) old_rows.now result p × Ahead (edit_of e) old_rows.now result p }
@@ -67,7 +67,7 @@ fn is_match(old_rows: &[Row], j: usize, e: Edit, p: usize, flags: Flags) -> bool
         && old_rows[j][Item::FLAGS] == u32::from(flags)
 }
 
-// Reads the next item of a part that begins at `base`, and writes it with its place in the whole text.
+// Reads the next item of a part that begins at `base`, as a run does, and writes it with its place in the whole text.
 fn read_fresh(part: &[u32], base: usize, at: Progress, known: &Known, room: &mut Room) -> Progress
     requires { (base + length part.now ≤ max_chars) × (at.counts.cells + (length part.now - at.position) ≤ length room.old.store.now) × Searchable part.now room.old.scratch.now
         × (at.position ≤ length part.now) × (at.counts.cells ≤ max_chars) × (at.counts.items < length room.old.rows.now) × (at.counts.items ≤ max_chars + 1) }

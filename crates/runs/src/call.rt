@@ -23,7 +23,7 @@ pub fn clear(scratch: &mut [u32])
     scratch.fill(0);
 }
 
-// The scope that was lent, unless a text of n characters is refused.
+// The scope that was lent, unless a text of n characters is refused. A token call checks a position, too, and no rows.
 // Ruled out, among others: a short slice told before a broken scope; a record as long as the text, with no row for the start item.
 pub fn checked<'a>(n: usize, scope: Lent<'a>, room: &Room<'_>) -> Result<Sound<'a>, Refusal>
     ensures answer { ran.number result ≡ ran.refusal (lent_of scope.entry) n (length room.now.rows.now) (length room.now.store.now) (length room.now.scratch.now) }

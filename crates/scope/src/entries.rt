@@ -14,7 +14,7 @@ ghost use Rattle.scope.specs.Viewed.{viewed, no_entry};
 use crate::scope::{Kind, Scope, Slot};
 use crate::{broken, marks};
 
-// The number of its context, its depth, the number of its kind, and its name.
+// The number of its context, its depth, the number of its kind, and its name. A lent row may hold any number for a kind, and the check refuses those that are none.
 #[derive(Clone, Copy)]
 pub struct Entry<'a> {
     pub context: u32,

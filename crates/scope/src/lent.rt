@@ -16,7 +16,7 @@ pub struct Lent<'a> {
     pub names: &'a [[u32; Scope::MAX_NAME]],
 }
 
-// A lent scope that is not broken.
+// A lent scope that is not broken. It has its fields again, since the ghost field speaks of them.
 #[derive(Clone, Copy)]
 pub struct Sound<'a> {
     pub counts: Scope,

@@ -31,7 +31,7 @@ fn stays_beside(e: Entry, cut: u32, name: &[u32]) -> bool
     e.depth < cut && !(e.depth == 0 && e.name == name)
 }
 
-// How many entries from `from` on stay.
+// How many entries from `from` on stay. Counted before anything moves, since a call that is refused changes nothing.
 fn left_beside(entries: Rows, from: usize, name: &[u32]) -> usize
     requires { from ≤ length (rows_entries entries) }
     ensures { (from + result ≤ length (rows_entries entries.entry)) × (result ≡ length (without (suc max_depth) name.now (drop from (rows_entries entries.entry)))) }
@@ -47,7 +47,7 @@ fn left_beside(entries: Rows, from: usize, name: &[u32]) -> usize
     n
 }
 
-// Moves the entries from `from` on that stay together; answers the next free place.
+// Moves the entries from `from` on that stay together; answers the next free place. In place, so it reads at one place and writes at another.
 fn take_out(rows: &mut RowsMut, from: usize, count: usize, name: &[u32]) -> usize
     requires { (from ≤ count) × (count ≤ length rows.old.slots.now) × (count ≤ length rows.old.names.now) × (any_too_long count rows.old.slots.now ≡ false) }
     ensures moved { Moved rows.old.slots.now rows.old.names.now rows.new.slots.now rows.new.names.now from result count

@@ -16,7 +16,7 @@ pub struct RowsMut<'a> {
     pub names: &'a mut [[u32; Scope::MAX_NAME]],
 }
 
-// The name fills the front of the row.
+// The name fills the front of the row. What lies behind a loan of a part of a row among rows is known by a call's contract alone.
 fn fill(row: &mut [u32], name: &[u32])
     requires { length name.now ≤ length row.old }
     ensures { row.new ≡ front name.now row.old }

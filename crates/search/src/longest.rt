@@ -28,7 +28,7 @@ fn widest(scope: Sound) -> [usize; Scope::LEVELS]
     widest
 }
 
-// The length of the longest parsed name, 0 if there is none.
+// The length of the longest parsed name, 0 if there is none. By places, as the laws speak of the name at a place.
 fn longest_parsed(scope: Sound) -> usize
     ensures { All (λ n. length n ≤ result) (sound_scope scope.entry).parsed × (result ≤ max_name) }
 {

@@ -6,7 +6,7 @@ ghost use Rattle.text.specs.Classes as spec;
 
 use crate::chars::Char;
 
-// A class of characters.
+// A class of characters. Each is its own impl: it has a first test of its own, and its table is proved by computing.
 pub trait Class {
     ghost class: { ℕ → Bool };
 

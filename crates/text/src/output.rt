@@ -2,7 +2,7 @@
 ghost use Rattle.std.specs.Prelude.{[], ◌∷◌, ◌+◌, ◌≤◌, ◌<◌, length};
 ghost use Rattle.text.specs.Output.{Adds};
 
-// The first `len` cells are written.
+// The first `len` cells are written. Its cells go back to who lent them, so its contract tells of them, where printing's output, which owns its room, is the list that it holds.
 #[derive(Drop)]
 pub struct Output<'a> {
     pub cells: &'a mut [u32],

@@ -127,7 +127,7 @@ fn count_chars(bytes: &[u8]) -> Result<usize, usize>
     }
 }
 
-// Writes the characters to the front of the output.
+// Writes the characters to the front of the output. What it writes must have been counted before, so the walk is there twice.
 fn write_chars(bytes: &[u8], out: &mut [u32])
     requires { HasRoom (spec.decoded bytes.now) (length out.old) }
     ensures { out.new ≡ written_of (spec.decoded bytes.now) out.old }

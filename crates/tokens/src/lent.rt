@@ -11,7 +11,7 @@ use lexer::token::Read;
 use scope::lent::Lent;
 
 impl Lexer {
-    // Sets one flag and clears none.
+    // Sets one flag and clears none: the setter by value, on a lexer that is lent, as 01 names both.
     // Ruled out, among others: another flag set; the state left as it was.
     pub fn set_mut(&mut self, flag: Flag)
         ensures { state_of self.new ≡ spec.set (flag_named flag) (state_of self.old) }
