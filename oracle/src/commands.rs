@@ -19,6 +19,7 @@ use std::{env, fs};
 const USAGE: &str = "\
 oracle check                          the stored answers against the Rust
 oracle definitions [RANDOM [EDITS]]   the definitions against the Rust, as computed equations
+oracle definitions part               the same of a hundredth of the cases
 oracle program [TEXTS]                the record program, built before, against the Rust
 oracle answers                        prints the stored answers anew
 oracle replay                         writes what the program crates/replay reads and must print
@@ -28,6 +29,9 @@ oracle run                            reads cases in their text form, prints eac
 
 /// The definitions' token types.
 const TOKEN_TYPES: &str = concat!(env!("CARGO_MANIFEST_DIR"), "/../crates/lexer/specs/TokenType.antt");
+
+/// One in so many cases is damaged, too, and must then be refused.
+const DAMAGED: usize = 97;
 
 /// Where `rt run` in crates/print_record puts the record program.
 const PROGRAM: &str = concat!(env!("CARGO_MANIFEST_DIR"), "/../crates/print_record/out/print_record");
@@ -39,8 +43,9 @@ pub fn main() -> ExitCode {
     let number = |at: usize, default: u64| words.get(at).map_or(Some(default), |word| word.parse().ok());
     let done = match words.as_slice() {
         ["check"] => check(),
+        ["definitions", "part"] => definitions(0, 5, DAMAGED),
         ["definitions", ..] if words.len() < 4 => match (number(1, 2000), number(2, 500)) {
-            (Some(random), Some(edits)) => definitions(random, edits),
+            (Some(random), Some(edits)) => definitions(random, edits, 1),
             _ => Err(io::Error::other(USAGE)),
         },
         ["program", ..] if words.len() < 3 => match number(1, 10_000) {
@@ -128,14 +133,15 @@ fn print_panics(records: &[Record]) {
 }
 
 /// All cases of the rules and alphabets, and random ones; then repairs; then damaged records, which must be refused.
-fn definitions(random_cases: u64, edits: u64) -> io::Result<bool> {
+fn definitions(random_cases: u64, edits: u64, every: usize) -> io::Result<bool> {
     let mut cases = [rules(), short(), (0..random_cases).map(random).collect()].concat();
     cases.retain(|case| case.length() <= LONGEST);
+    let cases: Vec<Case> = cases.into_iter().step_by(every).collect();
     let records: Vec<Record> = cases.iter().map(|case| run(case).expect("start types are token types")).collect();
     let equations = || cases.iter().zip(&records).map(|(case, record)| Equation::of_run(case, record));
     let runs: Vec<Equation> = equations().collect();
     let repairs: Vec<Equation> = (0..edits).filter_map(|seed| Equation::of_edit(&edit(seed))).collect();
-    let damaged: Vec<Equation> = equations().step_by(97).enumerate().map(|(i, equation)| equation.damaged(i)).collect();
+    let damaged: Vec<Equation> = equations().step_by(DAMAGED / every).enumerate().map(|(i, equation)| equation.damaged(i)).collect();
 
     let scratch = Scratch::new(&Path::new(env!("CARGO_MANIFEST_DIR")).join(".."))?;
     println!("definitions of {}", scratch.commit);

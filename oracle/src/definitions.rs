@@ -205,9 +205,9 @@ fn used_modules(committed: &Path) -> io::Result<Vec<Module>> {
     Ok(used)
 }
 
-/// Crate and module of an import of the repository's, which reads `use Rattle.text.specs.Classes.{..}`. The library's own stay as they are.
+/// Crate and module of an import of the repository's, which reads `use Rattle.text.specs.Classes.{..}`, also where it is handed on (`pub use`). The library's own stay as they are.
 fn imported(line: &str) -> Option<(String, String)> {
-    let (package, module) = line.strip_prefix("use Rattle.")?.split_once(".specs.")?;
+    let (package, module) = line.strip_prefix("pub ").unwrap_or(line).strip_prefix("use Rattle.")?.split_once(".specs.")?;
     (package != "std").then_some((package.to_string(), module.split(['.', ' ']).next()?.to_string()))
 }
 

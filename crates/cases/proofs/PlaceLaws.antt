@@ -1,16 +1,12 @@
 -- The first space ends a field.
-use Rattle.std.proofs.Common.{◌≡◌, ℕ, suc, ◌+◌, ◌-◌, ◌<◌, ◌≤◌, min, Bool, true, false, not, cond, List, [], ◌∷◌, length, take, drop, add-zero, refl, ap, ◌∙◌, arith, length-drop, get_or, get_or-drop}
+use Rattle.std.proofs.Common.{◌≡◌, ℕ, suc, ◌+◌, ◌-◌, ◌<◌, ◌≤◌, min, max, Bool, true, false, not, cond, List, [], ◌∷◌, length, take, drop, add-zero, refl, ap, ◌∙◌, arith, length-drop, get_or, get_or-drop}
 use Rattle.std.specs.Prelude.{Option, Some, None}
-use Rattle.std.specs.Option.{option_eq, unwrap_or}
+use Rattle.std.specs.Option.{option_eq}
 use Rattle.std.specs.List.{slice_get, prefix_len, position, position_or_len}
-use Rattle.std.proofs.lemmas.Grind.{common_steps}
-use Rattle.std.proofs.lemmas.List.Sums.{prefix_len-le-length}
 use borrow.Author.Tests.{ltb-true, ltb-false}
 use lib.Dec.{eqb, ltb}
-use lib.Seq.{take_all}
 use Rattle.reading.specs.Look.{cell_at}
 use Rattle.reading.specs.Cells.{is}
-use Rattle.reading.specs.Span.{span, past}
 use Rattle.reading.proofs.Cell.{cell-drop}
 use Rattle.reading.proofs.Test.{by_test}
 use Rattle.names.proofs.SameLaws.{eqb_sym}
@@ -35,8 +31,8 @@ module _ (l : List ℕ) (i : ℕ) {r : List ℕ} (e : r ≡ drop i l) where
   pub next_found : {n : ℕ} → Some n ≡ position (λ x. eqb x 0x20) r → i + (n + 1) ≡ next_field l i
   next_found {n} g = let f = found (λ x. eqb x 0x20) (drop i l) (rw e at g) in omega (arith, f.0, f.1, next_is (drop i l))
 
-  pub next_missed : i ≤ length l → None ≡ position (λ x. eqb x 0x20) r → length l ≡ next_field l i
-  next_missed h g = omega (arith, missed (λ x. eqb x 0x20) (drop i l) (rw e at g), next_is (drop i l), length-drop i l)
+  pub next_missed : None ≡ position (λ x. eqb x 0x20) r → max i (length l) ≡ next_field l i
+  next_missed g = omega (arith, missed (λ x. eqb x 0x20) (drop i l) (rw e at g), next_is (drop i l), length-drop i l)
 
 -- The first byte of what is left is compared with another.
 first_is : (b : ℕ) (r : List ℕ) → option_eq eqb (slice_get r 0) (Some b) ≡ is b (cell_at r 0)
@@ -55,5 +51,5 @@ module _ (l : List ℕ) (i k : ℕ) {r : List ℕ} {j : ℕ} (e : r ≡ drop i l
   pub rest_in : k < length r → j < length l
   rest_in h = omega (arith, ap length e, length-drop i l)
 
-  pub rest_out : i ≤ length l → length r ≤ k → length l ≤ j
-  rest_out g h = omega (arith, ap length e, length-drop i l)
+  pub rest_out : length r ≤ k → length l ≤ j
+  rest_out h = omega (arith, ap length e, length-drop i l)

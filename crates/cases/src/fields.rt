@@ -8,12 +8,11 @@ ghost use Rattle.cases.specs.Fields.{next_field, number_at, digits_end, decimal_
 
 use text::hex;
 
-// A line, and the place up to which it is read: the definitions go by places in a line.
+// A line, and the place up to which it is read: the definitions go by places in a line. From behind its end nothing is read.
 #[derive(Clone, Copy)]
 pub struct Fields<'a> {
     pub line: &'a [u8],
     pub at: usize,
-    pub ghost within: { at ≤ length line.now },
 }
 
 // The first place of a byte.
@@ -37,7 +36,7 @@ impl<'a> Fields<'a> {
     pub fn rest(&self) -> &'a [u8]
         ensures { result.now ≡ drop self.now.at self.now.line.now }
     {
-        &self.line[self.at..]
+        self.line.get(self.at..).unwrap_or(&[])
     }
 
     // Goes on to the field behind the next space.
@@ -46,7 +45,7 @@ impl<'a> Fields<'a> {
     {
         match place_of(b' ', self.rest()) {
             Some(n) => self.at += n + 1,
-            None => self.at = self.line.len(),
+            None => self.at = self.at.max(self.line.len()),
         }
     }
 

@@ -1,7 +1,7 @@
 -- What the code answers of a record is told as the definitions tell it.
 use Rattle.std.specs.Prelude.{◌≡◌, refl, length, ℕ, List, Bool, true, false, cond, ◌&&◌, Result, Ok, Err}
 use Rattle.std.proofs.Common.{sym, ◌∙◌}
-use Rattle.text.specs.Refusals.{number_of}
+use Rattle.text.specs.RefusalNumber.{number_of}
 use Rattle.text.specs.declared.refusal.Refusal.{Refusal}
 use Rattle.text.specs.declared.refusal.Refusal.TheVariants.{ShortSlice}
 use Rattle.runs.specs.declared.call.Counts.{Counts}

@@ -12,7 +12,7 @@ use Rattle.reading.specs.Look.{run}
 use Rattle.reading.specs.Cells.{maybe}
 use Rattle.reading.proofs.Test.{by_test}
 use Rattle.text.specs.Limits.{max_chars}
-use Rattle.text.specs.Refusals.{number_of}
+use Rattle.text.specs.RefusalNumber.{number_of}
 use Rattle.text.specs.declared.refusal.Refusal.{Refusal}
 use Rattle.scope.specs.Keys.{is_name}
 use Rattle.scope.specs.Lent.{Lent, is_broken, scope_of}

@@ -3,7 +3,7 @@
 use Rattle.std.specs.Prelude.{◌≡◌, Bool, true, false, cond, ◌&&◌, List, [], ◌∷◌, ℕ, ◌+◌, ◌≤◌, eqb, leb, length, Option, None, Some, Result, Ok, Err}
 use Rattle.reading.specs.Slices.{front, zeros}
 use Rattle.text.specs.Refusals.{short_slice, broken_scope}
-use Rattle.text.specs.Refusals as refusal
+use Rattle.text.specs.RefusalNumber as refusal
 use Rattle.text.specs.declared.refusal.Refusal.{Refusal}
 use Rattle.text.specs.declared.refusal.Refusal.TheVariants.{ShortSlice}
 use Rattle.text.specs.Utf8 as utf8

@@ -1,6 +1,5 @@
 -- A prefix that holds more than the longest key has cells is no name, nor is any longer one.
-use Rattle.std.specs.Prelude.{Option, None, Some}
-use Rattle.std.specs.declared.ops.Range.{Range}
+use Rattle.std.specs.Prelude.{Result, Ok, Err}
 use mathlib.Core.Path.{◌≡◌, refl, sym, ap, ◌∙◌, subst}
 use mathlib.Core.Bool.{Bool, true, false}
 use mathlib.Core.List.{List}
@@ -19,9 +18,9 @@ use Rattle.lexer.specs.Fit.{fit, Bounded}
 use Rattle.lexer.proofs.PartLaws.{prefix-at}
 
 -- A longer prefix holds no less.
-inks-leads : (t : List ℕ) (m n : ℕ) (x : Option (Range ℕ)) → ((e : ℕ) → inks (texts (prefix t m e)) ≤ inks (texts (prefix t n e))) → inks (texts (leads t x (prefix t m (end_of x)))) ≤ inks (texts (leads t x (prefix t n (end_of x))))
-inks-leads t m n None f = omega arith
-inks-leads t m n (Some p) f = omega (arith, f p.end)
+inks-leads : (t : List ℕ) (m n : ℕ) (x : Result (ℕ × ℕ) ℕ) → ((e : ℕ) → inks (texts (prefix t m e)) ≤ inks (texts (prefix t n e))) → inks (texts (leads t x (prefix t m (end_of x)))) ≤ inks (texts (leads t x (prefix t n (end_of x))))
+inks-leads t m n (Ok p) f = omega (arith, f p.1)
+inks-leads t m n (Err e) f = omega arith
 
 inks_up : (t : List ℕ) (m n i : ℕ) → m ≤ n → inks (texts (prefix t m i)) ≤ inks (texts (prefix t n i))
 unfolding prefix
@@ -56,22 +55,22 @@ bounding_none t from n h = record { upto = omega arith; within = h; size = omega
 pub bounded_all : (t : List ℕ) (from n cap : ℕ) → Bounded t from n cap n
 bounded_all t from n cap = record { less = omega arith; so = λ found keys. refl }
 
-module _ {t : List ℕ} {from n i m total : ℕ} (g : Bounding t from n i m total) {x : Option (Range ℕ)} (q : (x ≡ next_of t i) × Placed t i x) {p : Range ℕ} (r : x ≡ Some p) where
-  pub step_on : (i ≤ p.start) × (p.start < p.end) × (p.end ≤ length t)
+module _ {t : List ℕ} {from n i m total : ℕ} (g : Bounding t from n i m total) {x : Result (ℕ × ℕ) ℕ} (q : (x ≡ next_of t i) × Placed t i x) {p : ℕ × ℕ} (r : x ≡ Ok p) where
+  pub step_on : (i ≤ p.0) × (p.0 < p.1) × (p.1 ≤ length t)
   step_on = subst (Placed t i) r q.1
 
-  module _ (l : m < n) {w : ℕ} (u : (w ≡ ink (part t p.start p.end)) × (w ≤ length (part t p.start p.end))) where
-    more : (k : ℕ) → inks (texts (prefix t (m + suc k) from)) ≡ total + w + inks (texts (prefix t k p.end))
+  module _ (l : m < n) {w : ℕ} (u : (w ≡ ink (part t p.0 p.1)) × (w ≤ length (part t p.0 p.1))) where
+    more : (k : ℕ) → inks (texts (prefix t (m + suc k) from)) ≡ total + w + inks (texts (prefix t k p.1))
     more k = g.so (suc k) ∙ ap (λ ps. total + inks (texts ps)) (prefix-at t i k p (sym r ∙ q.0)) ∙ omega (arith, u.0)
 
     pub bounding_over : {cap : ℕ} → cap < total + w → Bounded t from n cap m
     bounding_over {cap} h =
         let z : m + 1 ≡ suc m = omega arith in
-        let o : inks (texts (prefix t (suc m) from)) ≡ total + w + inks (texts (prefix t 0 p.end)) = rw z at (more 0) in
+        let o : inks (texts (prefix t (suc m) from)) ≡ total + w + inks (texts (prefix t 0 p.1)) = rw z at (more 0) in
         record { less = omega arith; so = λ found keys. fit_bound found cap keys t from m (omega (arith, o, h)) n (omega arith) }
 
-    pub bounding_more : Bounding t from n p.end (m + 1) (total + w)
-    bounding_more = let k = step_on in let a = k.0 in let b = k.1 in let z = g.size in let y = u.1 in let v = part_length t p.start p.end k.2 in record {
+    pub bounding_more : Bounding t from n p.1 (m + 1) (total + w)
+    bounding_more = let k = step_on in let a = k.0 in let b = k.1 in let z = g.size in let y = u.1 in let v = part_length t p.0 p.1 k.2 in record {
       upto = omega arith;
       within = k.2;
       size = omega arith;

@@ -1,6 +1,5 @@
 -- A loop that writes parts has written some of them, and what is left is the same spelling from where it stands.
-use Rattle.std.specs.Prelude.{Option, None, Some}
-use Rattle.std.specs.declared.ops.Range.{Range}
+use Rattle.std.specs.Prelude.{Result, Ok, Err}
 use mathlib.Core.Path.{◌≡◌, refl, sym, ap, ◌∙◌, subst}
 use mathlib.Core.Bool.{Bool, true, false, ◌&&◌}
 use mathlib.Core.List.{List, [], ◌∷◌, ◌++◌, map, append-nil, append_assoc}
@@ -18,21 +17,21 @@ use Rattle.names.specs.Trim.{trim}
 use Rattle.names.specs.Name.{is_symbol_text}
 use Rattle.names.specs.Spelling.{tied, laid, spelled}
 use Rattle.lexer.specs.Naming.{texts}
-use Rattle.lexer.specs.Places.{places, here_of, start_of, next_of, between, Placed, prefix, spelling}
+use Rattle.lexer.specs.Places.{here_of, start_of, next_of, between, Placed, prefix, spelling}
 
 module _ (t : List ℕ) (i : ℕ) {a : Bool} (p : a ≡ holds is_name_part (cell_at t i)) where
-  pub here_word : a ≡ true → {j : ℕ} → Passed is_name_part t i j → (Some (places i j) ≡ here_of t i) × Placed t i (Some (places i j))
+  pub here_word : a ≡ true → {j : ℕ} → Passed is_name_part t i j → (Ok (i, j) ≡ here_of t i) × Placed t i (Ok (i, j))
   unfolding here_of
   here_word f d = (rw (sym p ∙ f, d.end), (omega arith, passed_more d (sym p ∙ f), d.within))
 
   module _ (f : a ≡ false) {b : Bool} (q : b ≡ holds is_symbol (cell_at t i)) where
-    pub here_symbol : b ≡ true → (Some (places i (i + 1)) ≡ here_of t i) × Placed t i (Some (places i (i + 1)))
+    pub here_symbol : b ≡ true → (Ok (i, i + 1) ≡ here_of t i) × Placed t i (Ok (i, i + 1))
     unfolding here_of
     here_symbol g = let l = cell_there is_symbol t i (sym q ∙ g) in (rw (sym p ∙ f, sym q ∙ g), (omega arith, omega arith, omega arith))
 
-    pub here_none : b ≡ false → (None ≡ here_of t i) × Placed t i None
+    pub here_none : b ≡ false → i ≤ length t → (Err i ≡ here_of t i) × Placed t i (Err i)
     unfolding here_of
-    here_none g = (rw (sym p ∙ f, sym q ∙ g), tt)
+    here_none g l = (rw (sym p ∙ f, sym q ∙ g), (omega arith, l))
 
 -- The next part must start right here where a word or a symbol does, and else behind the whitespace.
 module _ (t : List ℕ) (i : ℕ) where
@@ -53,19 +52,19 @@ module _ (t : List ℕ) (i : ℕ) where
       unfolding start_of
       start_space g d = (rw (sym p ∙ f, sym q ∙ g, d.end), d.from, d.within)
 
-pub next_start : (t : List ℕ) (i j : ℕ) → (j ≡ start_of t i) × (i ≤ j) × (j ≤ length t) → (r : Option (Range ℕ)) → (r ≡ here_of t j) × Placed t j r → (r ≡ next_of t i) × Placed t i r
-next_start t i j s None h = (h.0 ∙ ap (here_of t) s.0, tt)
-next_start t i j s (Some p) h = (h.0 ∙ ap (here_of t) s.0, (let n = s.1 in let m = h.1.0 in omega arith, h.1.1, h.1.2))
+pub next_start : (t : List ℕ) (i j : ℕ) → (j ≡ start_of t i) × (i ≤ j) × (j ≤ length t) → (r : Result (ℕ × ℕ) ℕ) → (r ≡ here_of t j) × Placed t j r → (r ≡ next_of t i) × Placed t i r
+next_start t i j s (Ok p) h = (h.0 ∙ ap (here_of t) s.0, (let n = s.1 in let m = h.1.0 in omega arith, h.1.1, h.1.2))
+next_start t i j s (Err e) h = (h.0 ∙ ap (here_of t) s.0, (let n = s.1 in let m = h.1.0 in omega arith, h.1.1))
 
 -- parts, one after another
-pub prefix-at : (t : List ℕ) (i n : ℕ) (p : Range ℕ) → Some p ≡ next_of t i → prefix t (suc n) i ≡ between t p.start p.end ∷ prefix t n p.end
+pub prefix-at : (t : List ℕ) (i n : ℕ) (p : ℕ × ℕ) → Ok p ≡ next_of t i → prefix t (suc n) i ≡ between t p.0 p.1 ∷ prefix t n p.1
 unfolding prefix
 prefix-at t i n p q = rw (← q)
 
-pub prefix_over : (t : List ℕ) (i n : ℕ) → None ≡ next_of t i → prefix t n i ≡ []
+pub prefix_over : (t : List ℕ) (i n e : ℕ) → Err e ≡ next_of t i → prefix t n i ≡ []
 unfolding prefix
-prefix_over t i zero q = refl
-prefix_over t i (suc n) q = rw (← q)
+prefix_over t i zero e q = refl
+prefix_over t i (suc n) e q = rw (← q)
 
 spelled_none : (new b : Bool) → spelled new b [] ≡ []
 unfolding spelled
@@ -110,29 +109,29 @@ module _ {t o : List ℕ} {new : Bool} {n from i m k : ℕ} {b : Bool} {o' : Lis
   unfolding prefix
   spelling-end l = let z : n - m ≡ 0 = omega arith in ended (rw z (spelled_none new b))
 
-  module _ {x : Option (Range ℕ)} (q : (x ≡ next_of t i) × Placed t i x) where
-    pub spelling_over : x ≡ None → Wrote o (spelling new (prefix t n from)) k o'
-    spelling_over r = ended (rw (prefix_over t i (n - m) (sym r ∙ q.0)) (spelled_none new b))
+  module _ {x : Result (ℕ × ℕ) ℕ} (q : (x ≡ next_of t i) × Placed t i x) where
+    pub spelling_over : {e : ℕ} → x ≡ Err e → Wrote o (spelling new (prefix t n from)) k o'
+    spelling_over {e} r = ended (rw (prefix_over t i (n - m) e (sym r ∙ q.0)) (spelled_none new b))
 
-    pub spelling_on : {p : Range ℕ} → x ≡ Some p → (i ≤ p.start) × (p.start < p.end) × (p.end ≤ length t)
+    pub spelling_on : {p : ℕ × ℕ} → x ≡ Ok p → (i ≤ p.0) × (p.0 < p.1) × (p.1 ≤ length t)
     spelling_on r = subst (Placed t i) r q.1
 
-    module _ (l : m < n) (room : length (spelling new (prefix t n from)) ≤ length o) {p : Range ℕ} (r : x ≡ Some p) {w : List ℕ} (tr : w ≡ trim (part t p.start p.end)) {c : Bool} (pc : c ≡ tied new b w) where
-      step : Tail t new b (n - m) i ≡ laid c w ++ Tail t new (new && is_symbol_text w) (n - (m + 1)) p.end
+    module _ (l : m < n) (room : length (spelling new (prefix t n from)) ≤ length o) {p : ℕ × ℕ} (r : x ≡ Ok p) {w : List ℕ} (tr : w ≡ trim (part t p.0 p.1)) {c : Bool} (pc : c ≡ tied new b w) where
+      step : Tail t new b (n - m) i ≡ laid c w ++ Tail t new (new && is_symbol_text w) (n - (m + 1)) p.1
       step =
           let y : n - m ≡ suc (n - (m + 1)) = omega arith in
           rw (y, prefix-at t i (n - (m + 1)) p (sym r ∙ q.0), ← tr, pc) (spelled_more new b w _)
 
-      total : g.written ++ laid c w ++ Tail t new (new && is_symbol_text w) (n - (m + 1)) p.end ≡ spelling new (prefix t n from)
+      total : g.written ++ laid c w ++ Tail t new (new && is_symbol_text w) (n - (m + 1)) p.1 ≡ spelling new (prefix t n from)
       total = append_assoc g.written _ _ ∙ ap (g.written ++◌) (sym step) ∙ g.rest
 
       fits : length (g.written ++ laid c w) ≤ length o
-      fits = omega (arith, ap length total, length-append (g.written ++ laid c w) (Tail t new (new && is_symbol_text w) (n - (m + 1)) p.end))
+      fits = omega (arith, ap length total, length-append (g.written ++ laid c w) (Tail t new (new && is_symbol_text w) (n - (m + 1)) p.1))
 
       pub spelling-room : k + length (laid c w) ≤ length o'
       spelling-room = omega (arith, fits, length-append g.written (laid c w), g.wrote.size, g.same)
 
-      pub spelling_more : {k' : ℕ} {o'' : List ℕ} → Further o' k (laid c w) k' o'' → {b' : Bool} → b' ≡ new && is_symbol_text w → Spelling t o new n from p.end (m + 1) k' b' o''
+      pub spelling_more : {k' : ℕ} {o'' : List ℕ} → Further o' k (laid c w) k' o'' → {b' : Bool} → b' ≡ new && is_symbol_text w → Spelling t o new n from p.1 (m + 1) k' b' o''
       spelling_more f {b'} pb = let q = f.so o g.written g.wrote in record {
         written = g.written ++ laid c w;
         wrote = q;

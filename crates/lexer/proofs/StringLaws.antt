@@ -24,7 +24,7 @@ use Rattle.lexer.specs.Read.{Read, token, refused, chars}
 use Rattle.lexer.specs.Text as spec
 use Rattle.lexer.specs.Token.{fuel}
 use Rattle.lexer.specs.TokenType
-use Rattle.text.specs.Refusals.{number_of}
+use Rattle.text.specs.RefusalNumber.{number_of}
 use Rattle.text.specs.declared.refusal.Refusal.{Refusal}
 use Rattle.text.specs.declared.refusal.Refusal.TheVariants.{NoHexDigit, EndAtHexDigit, NoScalarValue, NoSecondHalf, EndAtSecondHalf}
 use Rattle.lexer.specs.declared.string.Broken.{Broken}

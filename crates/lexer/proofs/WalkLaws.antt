@@ -1,6 +1,5 @@
 -- The walk as a relation, which code steps along and which gives the reading; its parts are the prefix of their number.
-use Rattle.std.specs.Prelude.{Option, None, Some}
-use Rattle.std.specs.declared.ops.Range.{Range}
+use Rattle.std.specs.Prelude.{Result, Ok, Err}
 use mathlib.Core.Path.{◌≡◌, refl, sym, ap, ◌∙◌, subst}
 use mathlib.Core.Bool.{Bool, true, false, cond, false≢true}
 use mathlib.Core.List.{List, [], ◌∷◌, ◌++◌, append_assoc, append-nil}
@@ -21,7 +20,7 @@ use Rattle.text.specs.Limits.{max_chars}
 use Rattle.text.specs.Classes.{is_whitespace, is_name_part, is_symbol}
 use Rattle.lexer.specs.Parts.{Part, walk}
 use Rattle.lexer.specs.Token.{fuel}
-use Rattle.lexer.specs.Places.{places, here_of, start_of, next_of, between, leads, end_of, Placed, prefix, Counted}
+use Rattle.lexer.specs.Places.{here_of, start_of, next_of, between, leads, end_of, Placed, prefix, Counted}
 
 -- The walk from i on passes the parts ps and ends at e.
 pub data Walk (t : List ℕ) : ℕ → List Part → ℕ → Type 0 where
@@ -67,10 +66,10 @@ module _ (t : List ℕ) (gathering : ℕ) (small : length t < gathering) where
       let k = takes (sees_gather d gathering (omega arith)) _ g (j + 1) (omega arith) in
       sees_from k (walked {i = j} w f (omega arith)) (e + 1) (omega arith)
 
--- What the next part, which must start at j, does to a walk from behind it.
-abbrev Step : List ℕ → ℕ → ℕ → Option (Range ℕ) → Type 0
-Step t i j None = Walk t i [] j
-Step t i j (Some p) = (ps : List Part) (x : ℕ) → Walk t p.end ps x → Walk t i (between t p.start p.end ∷ ps) x
+-- What the next part does to a walk from behind it.
+abbrev Step : List ℕ → ℕ → Result (ℕ × ℕ) ℕ → Type 0
+Step t i (Ok p) = (ps : List Part) (x : ℕ) → Walk t p.1 ps x → Walk t i (between t p.0 p.1 ∷ ps) x
+Step t i (Err e) = Walk t i [] e
 
 module _ (t : List ℕ) where
   abbrev Letter : ℕ → Bool
@@ -79,39 +78,39 @@ module _ (t : List ℕ) where
   abbrev Symbol : ℕ → Bool
   Symbol i = holds is_symbol (cell_at t i)
 
-  here_step : (i : ℕ) → i ≤ length t → (Letter i ≡ false → Symbol i ≡ false → holds is_whitespace (cell_at t i) ≡ false) → Step t i i (here_of t i)
+  here_step : (i : ℕ) → i ≤ length t → (Letter i ≡ false → Symbol i ≡ false → holds is_whitespace (cell_at t i) ≡ false) → Step t i (here_of t i)
   unfolding here_of
-  here_step i h c = by_test (Step t i i) (Letter i) (λ a ps x w. word a (passed is_name_part t i h) w)
-      (λ a. by_test (Step t i i) (Symbol i) (λ b ps x w. symbol a b w) (λ b. ends a b (c a b)))
+  here_step i h c = by_test (Step t i) (Letter i) (λ a ps x w. word a (passed is_name_part t i h) w)
+      (λ a. by_test (Step t i) (Symbol i) (λ b ps x w. symbol a b w) (λ b. ends a b (c a b)))
 
-  behind : (i j : ℕ) → Letter i ≡ false → Symbol i ≡ false → holds is_whitespace (cell_at t i) ≡ true → Passed is_whitespace t i j → (n : Option (Range ℕ)) → Step t j j n → Step t i j n
-  behind i j a b c d None k = space a b c d k
-  behind i j a b c d (Some p) k = λ ps x w. space a b c d (k ps x w)
+  behind : (i j : ℕ) → Letter i ≡ false → Symbol i ≡ false → holds is_whitespace (cell_at t i) ≡ true → Passed is_whitespace t i j → (n : Result (ℕ × ℕ) ℕ) → Step t j n → Step t i n
+  behind i j a b c d (Ok p) k = λ ps x w. space a b c d (k ps x w)
+  behind i j a b c d (Err e) k = space a b c d k
 
-  spaced : (i : ℕ) → i ≤ length t → Letter i ≡ false → Symbol i ≡ false → Step t i (past is_whitespace t i) (here_of t (past is_whitespace t i))
+  spaced : (i : ℕ) → i ≤ length t → Letter i ≡ false → Symbol i ≡ false → Step t i (here_of t (past is_whitespace t i))
   spaced i h a b = go (holds is_whitespace (cell_at t i)) refl
     where
-      go : (c : Bool) → holds is_whitespace (cell_at t i) ≡ c → Step t i (past is_whitespace t i) (here_of t (past is_whitespace t i))
+      go : (c : Bool) → holds is_whitespace (cell_at t i) ≡ c → Step t i (here_of t (past is_whitespace t i))
       go true c =
           let d = passed is_whitespace t i h in
           behind i (past is_whitespace t i) a b c d (here_of t (past is_whitespace t i)) (here_step (past is_whitespace t i) d.within (λ _ _. d.out))
       go false c = rw (past_out is_whitespace t i c) (here_step i h (λ _ _. c))
 
-  next_step : (i : ℕ) → i ≤ length t → Step t i (start_of t i) (next_of t i)
+  next_step : (i : ℕ) → i ≤ length t → Step t i (next_of t i)
   unfolding start_of
   next_step i h = by_test Goes (Letter i) (λ a. here_step i h (λ b. absurd (false≢true (sym b ∙ a))))
       (λ a. by_test Goes (Symbol i) (λ b. here_step i h (λ _ c. absurd (false≢true (sym c ∙ b)))) (λ b. spaced i h a b))
     where
       Goes : ℕ → Type 0
-      Goes j = Step t i j (here_of t j)
+      Goes j = Step t i (here_of t j)
 
 -- The walk's parts are the prefix of their number.
 module _ (t : List ℕ) where
-  next_word : (i j : ℕ) → holds is_name_part (cell_at t i) ≡ true → Passed is_name_part t i j → next_of t i ≡ Some (places i j)
+  next_word : (i j : ℕ) → holds is_name_part (cell_at t i) ≡ true → Passed is_name_part t i j → next_of t i ≡ Ok (i, j)
   unfolding here_of start_of
   next_word i j a d = rw (a) (rw (a, d.end))
 
-  next_symbol : (i : ℕ) → holds is_name_part (cell_at t i) ≡ false → holds is_symbol (cell_at t i) ≡ true → next_of t i ≡ Some (places i (i + 1))
+  next_symbol : (i : ℕ) → holds is_name_part (cell_at t i) ≡ false → holds is_symbol (cell_at t i) ≡ true → next_of t i ≡ Ok (i, i + 1)
   unfolding here_of start_of
   next_symbol i a b = rw (a, b) (rw (a, b))
 
@@ -143,9 +142,9 @@ module _ (t : List ℕ) where
   walk-prefix {i} (symbol {ps = ps} a b w) = rw (next_symbol i a b) (ap (between t i (i + 1) ∷◌) (walk-prefix w))
   walk-prefix {i} (space {j = j} {ps = ps} a b c d w) = walk-prefix w ∙ sym (prefix_same (length ps) i j (next_space i j a b d))
 
-  take-leads : (m n : ℕ) (x : Option (Range ℕ)) → ((e : ℕ) → take m (prefix t n e) ≡ prefix t m e) → take (suc m) (leads t x (prefix t n (end_of x))) ≡ leads t x (prefix t m (end_of x))
-  take-leads m n None f = refl
-  take-leads m n (Some p) f = ap (between t p.start p.end ∷◌) (f p.end)
+  take-leads : (m n : ℕ) (x : Result (ℕ × ℕ) ℕ) → ((e : ℕ) → take m (prefix t n e) ≡ prefix t m e) → take (suc m) (leads t x (prefix t n (end_of x))) ≡ leads t x (prefix t m (end_of x))
+  take-leads m n (Ok p) f = ap (between t p.0 p.1 ∷◌) (f p.1)
+  take-leads m n (Err e) f = refl
 
   -- A shorter prefix is the front of a longer one.
   pub prefix-take : (m n i : ℕ) → m ≤ n → take m (prefix t n i) ≡ prefix t m i
@@ -157,7 +156,7 @@ module _ (t : List ℕ) where
   here_placed : (i : ℕ) → i ≤ length t → Placed t i (here_of t i)
   unfolding here_of
   here_placed i h = by_test (Placed t i) (holds is_name_part (cell_at t i)) (λ a. let d = passed is_name_part t i h in (omega arith, passed_more d a, d.within))
-      (λ _. by_test (Placed t i) (holds is_symbol (cell_at t i)) (λ b. let l = cell_there is_symbol t i b in (omega arith, omega arith, omega arith)) (λ _. tt))
+      (λ _. by_test (Placed t i) (holds is_symbol (cell_at t i)) (λ b. let l = cell_there is_symbol t i b in (omega arith, omega arith, omega arith)) (λ _. (omega arith, h)))
 
   start-within : (i : ℕ) → i ≤ length t → (i ≤ start_of t i) × (start_of t i ≤ length t)
   unfolding start_of
@@ -166,9 +165,9 @@ module _ (t : List ℕ) where
       In : ℕ → Type 0
       In n = (i ≤ n) × (n ≤ length t)
 
-  further : (i j : ℕ) → i ≤ j → (n : Option (Range ℕ)) → Placed t j n → Placed t i n
-  further i j h None p = tt
-  further i j h (Some x) p = (omega (arith, p.0), p.1, p.2)
+  further : (i j : ℕ) → i ≤ j → (n : Result (ℕ × ℕ) ℕ) → Placed t j n → Placed t i n
+  further i j h (Ok x) p = (omega (arith, p.0), p.1, p.2)
+  further i j h (Err e) p = (omega (arith, p.0), p.1)
 
   pub next_placed : (i : ℕ) → i ≤ length t → Placed t i (next_of t i)
   next_placed i h = let s = start-within i h in further i (start_of t i) s.0 (next_of t i) (here_placed (start_of t i) s.1)
@@ -184,33 +183,34 @@ pub record Passing (t : List ℕ) (from i n : ℕ) : Type 0 where
 pub passing_none : (t : List ℕ) (i : ℕ) → i ≤ length t → Passing t i i 0
 passing_none t i h = record { parts = []; count = refl; on = omega arith; within = h; so = λ ps x w. w }
 
-module _ {t : List ℕ} {from i n : ℕ} (k : Passing t from i n) {x : Option (Range ℕ)} (g : (x ≡ next_of t i) × Placed t i x) where
-  met : {y : Option (Range ℕ)} → x ≡ y → Step t i (start_of t i) y
-  met q = subst (Step t i (start_of t i)) (sym g.0 ∙ q) (next_step t i k.within)
+module _ {t : List ℕ} {from i n : ℕ} (k : Passing t from i n) {x : Result (ℕ × ℕ) ℕ} (g : (x ≡ next_of t i) × Placed t i x) where
+  met : {y : Result (ℕ × ℕ) ℕ} → x ≡ y → Step t i y
+  met q = subst (Step t i) (sym g.0 ∙ q) (next_step t i k.within)
 
-  pub passing_on : {p : Range ℕ} → x ≡ Some p → (i ≤ p.start) × (p.start < p.end) × (p.end ≤ length t)
+  pub passing_on : {p : ℕ × ℕ} → x ≡ Ok p → (i ≤ p.0) × (p.0 < p.1) × (p.1 ≤ length t)
   passing_on q = subst (Placed t i) q g.1
 
-  pub passing_more : {p : Range ℕ} → x ≡ Some p → Passing t from p.end (n + 1)
+  pub passing_more : {p : ℕ × ℕ} → x ≡ Ok p → Passing t from p.1 (n + 1)
   passing_more {p} q =
       let b = passing_on q in
       let l = b.0 in let m = b.1 in let u = k.on in let c = k.count in
       record {
-        parts = k.parts ++ between t p.start p.end ∷ [];
+        parts = k.parts ++ between t p.0 p.1 ∷ [];
         count = rw length-append (omega arith);
         on = omega arith;
         within = b.2;
-        so = λ ps x w. rw append_assoc (k.so (between t p.start p.end ∷ ps) x (met q ps x w));
+        so = λ ps x w. rw append_assoc (k.so (between t p.0 p.1 ∷ ps) x (met q ps x w));
       }
 
-  pub passing_over : length t ≤ max_chars → x ≡ None → {e : ℕ} → (e ≡ start_of t i) × (i ≤ e) × (e ≤ length t) → Counted t from n e
-  passing_over small q {e} s =
-      let w : Walk t from k.parts e = rw append-nil at (k.so [] e (rw s.0 (met q))) in
-      let l = s.1 in let u = k.on in
+  pub passing_over : length t ≤ max_chars → {e : ℕ} → x ≡ Err e → Counted t from n e
+  passing_over small {e} q =
+      let w : Walk t from k.parts e = rw append-nil at (k.so [] e (met q)) in
+      let b : Placed t i (Err e) = subst (Placed t i) q g.1 in
+      let l = b.0 in let u = k.on in
       let c : k.parts ≡ prefix t n from = walk-prefix t w ∙ ap (λ m. prefix t m from) (sym k.count) in
       record {
         on = omega arith;
-        within = s.2;
+        within = b.1;
         count = rw (← c) (sym k.count);
         sees = rw c at (walked t fuel (omega arith) w fuel (omega arith));
       }

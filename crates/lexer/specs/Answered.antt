@@ -1,6 +1,6 @@
 -- The cases of the code's answer in 01's numbers and values. The cells of a value stand at the front of the output.
 use Rattle.std.specs.Prelude.{◌≡◌, Bool, List, ℕ, ◌+◌, length, take, drop, Result, Ok, Err}
-use Rattle.text.specs.Refusals as text
+use Rattle.text.specs.RefusalNumber as text
 use Rattle.lexer.specs.Read.{Read, token, refused, nothing, truth, number, chars, cells_of}
 use Rattle.lexer.specs.TokenType
 use Rattle.lexer.specs.TypeNumber.{type_number}

@@ -2,7 +2,7 @@
 use Rattle.std.specs.Prelude.{◌≡◌, Bool, true, false, not, ◌||◌, List, [], ℕ, ◌+◌, ◌≤◌, eqb, length, Result, Ok, Err}
 use Rattle.std.specs.List.{FoldsTo}
 use Rattle.text.specs.Classes.{is_vertical_space}
-use Rattle.text.specs.Refusals.{number_of}
+use Rattle.text.specs.RefusalNumber.{number_of}
 use Rattle.reading.specs.Look.{Look}
 use Rattle.reading.specs.Goes.{Goes}
 use Rattle.reading.specs.Slices.{Wrote}

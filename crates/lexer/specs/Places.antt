@@ -1,6 +1,5 @@
 -- The parts of a name by their places, as a function of the text.
-use Rattle.std.specs.Prelude.{Bool, true, cond, List, [], ◌∷◌, map, ℕ, zero, suc, ◌+◌, ◌≤◌, ◌<◌, length, ◌≡◌, Option, None, Some}
-use Rattle.std.specs.declared.ops.Range.{Range}
+use Rattle.std.specs.Prelude.{Bool, true, cond, List, [], ◌∷◌, map, ℕ, zero, suc, ◌+◌, ◌≤◌, ◌<◌, length, ◌≡◌, Result, Ok, Err}
 use Rattle.reading.specs.Goes.{Sees}
 use Rattle.reading.specs.Look.{cell_at}
 use Rattle.reading.specs.Cells.{holds}
@@ -13,37 +12,33 @@ use Rattle.lexer.specs.Parts.{Part, walk}
 use Rattle.lexer.specs.Token.{fuel}
 use Rattle.lexer.specs.Naming.{texts}
 
--- The places from s up to, not including, e.
-abbrev pub places : ℕ → ℕ → Range ℕ
-places s e = record { start = s; end = e }
-
--- The part that starts at i, if one does.
-unfoldable pub here_of : List ℕ → ℕ → Option (Range ℕ)
-here_of t i = cond (holds is_name_part (cell_at t i)) (Some (places i (past is_name_part t i))) (cond (holds is_symbol (cell_at t i)) (Some (places i (i + 1))) None)
+-- Where the part that starts at i starts and ends, or i itself, where the walk ends.
+unfoldable pub here_of : List ℕ → ℕ → Result (ℕ × ℕ) ℕ
+here_of t i = cond (holds is_name_part (cell_at t i)) (Ok (i, past is_name_part t i)) (cond (holds is_symbol (cell_at t i)) (Ok (i, i + 1)) (Err i))
 
 -- Where the next part must start, if there is one.
 unfoldable pub start_of : List ℕ → ℕ → ℕ
 start_of t i = cond (holds is_name_part (cell_at t i)) i (cond (holds is_symbol (cell_at t i)) i (past is_whitespace t i))
 
-abbrev pub next_of : List ℕ → ℕ → Option (Range ℕ)
+abbrev pub next_of : List ℕ → ℕ → Result (ℕ × ℕ) ℕ
 next_of t i = here_of t (start_of t i)
 
-abbrev pub end_of : Option (Range ℕ) → ℕ
-end_of None = 0
-end_of (Some p) = p.end
+abbrev pub end_of : Result (ℕ × ℕ) ℕ → ℕ
+end_of (Ok p) = p.1
+end_of (Err e) = e
 
 -- The part that stands from s up to, not including, e.
 abbrev pub between : List ℕ → ℕ → ℕ → Part
 between t s e = parts.part (part t s e) e
 
-abbrev pub leads : List ℕ → Option (Range ℕ) → List Part → List Part
-leads t None ps = []
-leads t (Some p) ps = between t p.start p.end ∷ ps
+abbrev pub leads : List ℕ → Result (ℕ × ℕ) ℕ → List Part → List Part
+leads t (Ok p) ps = between t p.0 p.1 ∷ ps
+leads t (Err e) ps = []
 
 -- It lies between i and the end.
-abbrev pub Placed : List ℕ → ℕ → Option (Range ℕ) → Type 0
-Placed t i None = Unit
-Placed t i (Some p) = (i ≤ p.start) × (p.start < p.end) × (p.end ≤ length t)
+abbrev pub Placed : List ℕ → ℕ → Result (ℕ × ℕ) ℕ → Type 0
+Placed t i (Ok p) = (i ≤ p.0) × (p.0 < p.1) × (p.1 ≤ length t)
+Placed t i (Err e) = (i ≤ e) × (e ≤ length t)
 
 -- The first n parts from i on, or all if they are fewer.
 unfoldable pub prefix : List ℕ → ℕ → ℕ → List Part

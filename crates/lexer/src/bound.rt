@@ -11,11 +11,11 @@ pub fn bound(rest: &[u32], from: usize, n: usize, cap: usize) -> usize
     let mut i = from;
     let mut total = 0;
     for m in 0..n {
-        let Some(part) = crate::parts::next_part(rest, i) else {
+        let Ok((start, end)) = crate::parts::next_part(rest, i) else {
             return n;
         };
-        i = part.end;
-        total += names::ink::ink_of(&rest[part]);
+        i = end;
+        total += names::ink::ink_of(&rest[start..end]);
         if cap < total {
             return m;
         }

@@ -5,25 +5,26 @@ ghost use Rattle.text.specs.Limits.{max_chars};
 ghost use Rattle.lexer.specs.Places.{here_of, start_of, next_of, Placed, Counted, prefix, spelling};
 
 use crate::look;
-use std::ops::Range;
 use text::classes::{NamePart, Symbol, Whitespace};
 use text::output::Output;
 
-// The part that starts at i, if one does.
-fn part_at(rest: &[u32], i: usize) -> Option<Range<usize>>
+// Where the part that starts at i starts and ends, or i itself, where the walk ends.
+#[inline]
+fn part_at(rest: &[u32], i: usize) -> Result<(usize, usize), usize>
     requires { i ≤ length rest.now }
     ensures { (result ≡ here_of rest.now i) × Placed rest.now i result }
 {
     if look::holds_at::<NamePart>(rest, i) {
-        return Some(i..look::end_of::<NamePart>(rest, i));
+        return Ok((i, look::end_of::<NamePart>(rest, i)));
     }
     if look::holds_at::<Symbol>(rest, i) {
-        return Some(i..i + 1);
+        return Ok((i, i + 1));
     }
-    None
+    Err(i)
 }
 
-// Where the next part must start, if there is one: a word is tried before whitespace, as some characters are both.
+// Where the next part must start, if there is one: a word is tried before whitespace, as some characters are both. A call of its own, so that the walks over parts stay small.
+#[inline(never)]
 fn part_start(rest: &[u32], i: usize) -> usize
     requires { i ≤ length rest.now }
     ensures { (result ≡ start_of rest.now i) × (i ≤ result) × (result ≤ length rest.now) }
@@ -34,9 +35,10 @@ fn part_start(rest: &[u32], i: usize) -> usize
     look::end_of::<Whitespace>(rest, i)
 }
 
-// The next part of a name from i on, if there is one. Each walk over parts stops for a reason of its own, so each asks for the next by itself.
+// Where the next part of a name from i on starts and ends, or where the walk ends. Each walk over parts stops for a reason of its own, so each asks for the next by itself.
 // Ruled out, among others: U+1680 right behind a symbol skipped as whitespace; two symbols taken for one part.
-pub fn next_part(rest: &[u32], i: usize) -> Option<Range<usize>>
+#[inline]
+pub fn next_part(rest: &[u32], i: usize) -> Result<(usize, usize), usize>
     requires { i ≤ length rest.now }
     ensures { (result ≡ next_of rest.now i) × Placed rest.now i result }
 {
@@ -58,13 +60,12 @@ pub fn count_parts(rest: &[u32], from: usize) -> Walked
 {
     let mut i = from;
     let mut parts = 0;
-    while let Some(part) = next_part(rest, i) {
-        i = part.end;
+    loop {
+        match next_part(rest, i) {
+            Ok((_, e)) => i = e,
+            Err(end) => return Walked { parts, end },
+        }
         parts += 1;
-    }
-    Walked {
-        parts,
-        end: part_start(rest, i),
     }
 }
 
@@ -78,11 +79,11 @@ pub fn write_parts(rest: &[u32], from: usize, n: usize, new: bool, out: &mut [u3
     let mut written = Output { cells: out, len: 0 };
     let mut tight = true;
     for _ in 0..n {
-        let Some(place) = next_part(rest, i) else {
+        let Ok((start, end)) = next_part(rest, i) else {
             return written.len;
         };
-        i = place.end;
-        let part = names::trim::trim(&rest[place]);
+        i = end;
+        let part = names::trim::trim(&rest[start..end]);
         let tied = names::name::is_tied(part, new, tight);
         names::name::add_part(part, tied, &mut written);
         tight = names::name::ends_tight(part, new);

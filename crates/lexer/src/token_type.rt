@@ -2,6 +2,7 @@
 ghost use Rattle.std.specs.Prelude.{◌≡◌};
 ghost use Rattle.lexer.specs.TokenTypes as spec;
 ghost use Rattle.lexer.specs.TypeNumber.{type_number};
+ghost use Rattle.lexer.specs.Lexer.{start_types};
 
 #[derive(Clone, Copy, PartialEq, Eq)]
 pub enum TokenType {
@@ -173,4 +174,22 @@ pub fn numbers() -> [u32; 63]
     ensures { result ≡ spec.all }
 {
     TokenType::ALL.map(u32::from)
+}
+
+// The numbers of the start types.
+// Ruled out, among others: a constant that is another start type's number.
+pub fn start_numbers() -> [u32; 9]
+    ensures { result ≡ start_types }
+{
+    [
+        TokenType::START_EXPRESSION,
+        TokenType::START_BOXED_EXPRESSION,
+        TokenType::START_TEXTUAL_EXPRESSION,
+        TokenType::START_TEXTUAL_EXPRESSIONS,
+        TokenType::START_UNARY_TESTS,
+        TokenType::START_SIMPLE_EXPRESSION,
+        TokenType::START_SIMPLE_EXPRESSIONS,
+        TokenType::START_SIMPLE_VALUE,
+        TokenType::START_RANGE_LITERAL,
+    ]
 }

@@ -23,6 +23,11 @@ impl Held {
         }
     }
 
+    // Opens the scope again; the rows stay as they are, since it uses none of them.
+    pub fn open(&mut self) {
+        self.scope = Scope::opened();
+    }
+
     // Whether a text is a name; a broken scope has none.
     pub fn has(&self, text: &[u32]) -> bool {
         let lent = Lent {

@@ -12,12 +12,14 @@ use crate::held::Held;
 use cases::fields::Fields;
 use scope::scope::Scope;
 use std::io;
-use std::io::{BufRead, BufReader};
+
+// There is room for the lines of `stdin`; of a longer input the rest is not read.
+const MAX_INPUT: usize = 32_768;
 
 // A question: the text stands before its words.
-fn asked(rt: &impl Print, line: &str, held: &Held) -> io::Result<()> {
+fn asked(rt: &impl Print, question: &[u8], held: &Held) -> io::Result<()> {
     let mut text = [0u32; Scope::MAX_NAME];
-    let mut fields = Fields::new(line.as_bytes());
+    let mut fields = Fields::new(question);
     let n = fields.cells(&mut text);
     rt.write_all(fields.rest())?;
     if held.has(&text[..n]) {
@@ -27,8 +29,8 @@ fn asked(rt: &impl Print, line: &str, held: &Held) -> io::Result<()> {
 }
 
 // A call, and what it is printed as.
-fn called(rt: &impl Print, line: &str, held: &mut Held) -> io::Result<()> {
-    let mut fields = Fields::new(line.as_bytes());
+fn called(rt: &impl Print, line: &[u8], held: &mut Held) -> io::Result<()> {
+    let mut fields = Fields::new(line);
     let answer = Answer(held.call(&mut fields));
     let words = fields.rest();
     if words.is_empty() {
@@ -38,21 +40,27 @@ fn called(rt: &impl Print, line: &str, held: &mut Held) -> io::Result<()> {
     println!(rt; ": {answer}")
 }
 
-fn step(rt: &impl Print, line: &str, held: &mut Held) -> io::Result<()> {
-    if let Some(heading) = line.strip_prefix("= ") {
-        *held = Held::opened();
-        return println!(rt; "{heading}");
+// A line without its end, of whatever bytes. Behind a mark stands a space; a mark alone prints nothing.
+fn step(rt: &impl Print, line: &[u8], held: &mut Held) -> io::Result<()> {
+    match line {
+        [b'=', ..] => held.open(),
+        [b'?', _, question @ ..] => return asked(rt, question, held),
+        [b'?'] => return Ok(()),
+        _ => return called(rt, line, held),
     }
-    if let Some(question) = line.strip_prefix("? ") {
-        return asked(rt, question, held);
-    }
-    called(rt, line, held)
+    let Some(heading) = line.get(2..) else {
+        return Ok(());
+    };
+    rt.write_all(heading)?;
+    rt.write_all(b"\n")
 }
 
 fn main(rt: HostRuntime) -> io::Result<()> {
+    let mut bytes = [0u8; MAX_INPUT];
+    let n = input::read_full(&rt, &mut bytes)?;
     let mut held = Held::opened();
-    for line in BufReader::new(rt.alloc(), rt.reader())?.lines(rt.alloc()) {
-        step(&rt, line?.as_str(), &mut held)?;
+    for line in bytes[..n].split_inclusive(|b| *b == b'\n') {
+        step(&rt, line.strip_suffix(b"\n").unwrap_or(line), &mut held)?;
     }
     lent::tried(&rt)
 }

@@ -34,11 +34,12 @@ pub(crate) fn trim_back(cells: &[u32]) -> &[u32]
     rest
 }
 
-// The cells, trimmed.
+// The cells, trimmed: a stretch of them that begins behind the white space in front.
 // Ruled out, among others: white space left at the back; U+180E, which is no White_Space, taken away.
 #[tactic(auto, unfolding(crate::specs::Trim::trim))]
 pub fn trim(cells: &[u32]) -> &[u32]
     ensures value { result.now ≡ spec.trim cells.now }
+    ensures place { result.now ≡ take (length result.now) (drop (length cells.now - length (spec.trim_front cells.now)) cells.now) }
     ensures within { length result.now ≤ length cells.now }
 {
     trim_back(trim_front(cells))

@@ -1,5 +1,5 @@
 -- A loop along the parts stands behind the first m of them; what is left are the parts from there on.
-use Rattle.std.specs.Prelude.{Option, None, Some}
+use Rattle.std.specs.Prelude.{Option, None, Some, Result, Ok, Err}
 use mathlib.Core.Path.{◌≡◌, refl, sym, ap, ◌∙◌, subst}
 use mathlib.Core.Bool.{Bool, true, false, cond, ◌&&◌, false≢true}
 use mathlib.Core.List.{List, [], ◌∷◌, ◌++◌, map, append_assoc, append-nil}
@@ -22,9 +22,7 @@ use Rattle.lexer.specs.Parts.{Part}
 use Rattle.lexer.specs.Read.{token, outcome}
 use Rattle.lexer.specs.Naming.{texts, name_of, end_of, starts_with, with_part, before_in, all_parts}
 use Rattle.lexer.specs.Flags.{TypeName, clear}
-use Rattle.std.specs.declared.ops.Range.{Range}
 use Rattle.lexer.specs.declared.flags.Flags.{Flags}
-use Rattle.std.specs.Prelude.{Ok}
 use Rattle.lexer.specs.TypeNumber.{type_number}
 use Rattle.lexer.specs.Answered.{letters}
 use Rattle.lexer.specs.declared.token.Token.TheVariants.{Chars}
@@ -39,16 +37,16 @@ use Rattle.lexer.proofs.PartLaws.{prefix-at, prefix_over}
 use Rattle.lexer.proofs.WalkLaws.{prefix-take}
 
 -- The first part alone.
-module _ (t : List ℕ) (i : ℕ) {p : Option (Range ℕ)} (q : (p ≡ next_of t i) × Placed t i p) (x : List ℕ) where
-  pub starts_at : {r : Range ℕ} → p ≡ Some r → {b : Bool} → b ≡ same x (part t r.start r.end) → b ≡ starts_with x (prefix t 1 i)
+module _ (t : List ℕ) (i : ℕ) {p : Result (ℕ × ℕ) ℕ} (q : (p ≡ next_of t i) × Placed t i p) (x : List ℕ) where
+  pub starts_at : {r : ℕ × ℕ} → p ≡ Ok r → {b : Bool} → b ≡ same x (part t r.0 r.1) → b ≡ starts_with x (prefix t 1 i)
   unfolding prefix
-  starts_at {r} f h = h ∙ same_sym x (part t r.start r.end) ∙ rw (← q.0, f)
+  starts_at {r} f h = h ∙ same_sym x (part t r.0 r.1) ∙ rw (← q.0, f)
 
-  pub starts_not : p ≡ None → false ≡ starts_with x (prefix t 1 i)
+  pub starts_not : {e : ℕ} → p ≡ Err e → false ≡ starts_with x (prefix t 1 i)
   unfolding prefix
   starts_not f = rw (← q.0, f)
 
-  pub placed_at : {r : Range ℕ} → p ≡ Some r → (i ≤ r.start) × (r.start < r.end) × (r.end ≤ length t)
+  pub placed_at : {r : ℕ × ℕ} → p ≡ Ok r → (i ≤ r.0) × (r.0 < r.1) × (r.1 ≤ length t)
   placed_at f = subst (Placed t i) f q.1
 
 pub record Stepping (t : List ℕ) (from i m : ℕ) : Type 0 where
@@ -68,24 +66,24 @@ end_snoc [] p = refl
 end_snoc (q ∷ []) p = refl
 end_snoc (q ∷ r ∷ ps) p = end_snoc (r ∷ ps) p
 
-module _ {t : List ℕ} {from i m : ℕ} (g : Stepping t from i m) {p : Option (Range ℕ)} (q : (p ≡ next_of t i) × Placed t i p) where
-  module _ {x : Range ℕ} (r : p ≡ Some x) where
-    pub stepped : prefix t (m + 1) from ≡ prefix t m from ++ between t x.start x.end ∷ []
-    stepped = g.so 1 ∙ ap (prefix t m from ++◌) (prefix-at t i 0 x (sym r ∙ q.0) ∙ ap (between t x.start x.end ∷◌) (prefix_none t x.end))
+module _ {t : List ℕ} {from i m : ℕ} (g : Stepping t from i m) {p : Result (ℕ × ℕ) ℕ} (q : (p ≡ next_of t i) × Placed t i p) where
+  module _ {x : ℕ × ℕ} (r : p ≡ Ok x) where
+    pub stepped : prefix t (m + 1) from ≡ prefix t m from ++ between t x.0 x.1 ∷ []
+    stepped = g.so 1 ∙ ap (prefix t m from ++◌) (prefix-at t i 0 x (sym r ∙ q.0) ∙ ap (between t x.0 x.1 ∷◌) (prefix_none t x.1))
 
-    pub stepping_more : Stepping t from x.end (m + 1)
+    pub stepping_more : Stepping t from x.1 (m + 1)
     stepping_more = record {
       within = (placed_at t i q [] r).2;
       so = λ k.
           let z : m + 1 + k ≡ m + suc k = omega arith in
-          rw z (g.so (suc k) ∙ ap (prefix t m from ++◌) (prefix-at t i k x (sym r ∙ q.0)) ∙ sym (append_assoc (prefix t m from) (between t x.start x.end ∷ []) (prefix t k x.end)) ∙ ap (◌++ prefix t k x.end) (sym stepped));
-      end = λ _. ap end_of stepped ∙ end_snoc (prefix t m from) (between t x.start x.end);
+          rw z (g.so (suc k) ∙ ap (prefix t m from ++◌) (prefix-at t i k x (sym r ∙ q.0)) ∙ sym (append_assoc (prefix t m from) (between t x.0 x.1 ∷ []) (prefix t k x.1)) ∙ ap (◌++ prefix t k x.1) (sym stepped));
+      end = λ _. ap end_of stepped ∙ end_snoc (prefix t m from) (between t x.0 x.1);
     }
 
-  pub stepping_over : {n : ℕ} → p ≡ None → m ≤ n → prefix t n from ≡ prefix t m from
-  stepping_over {n} r h =
+  pub stepping_over : {n e : ℕ} → p ≡ Err e → m ≤ n → prefix t n from ≡ prefix t m from
+  stepping_over {n} {e} r h =
       let z : m + (n - m) ≡ n = omega arith in
-      rw z at (g.so (n - m)) ∙ ap (prefix t m from ++◌) (prefix_over t i (n - m) (sym r ∙ q.0)) ∙ append-nil (prefix t m from)
+      rw z at (g.so (n - m)) ∙ ap (prefix t m from ++◌) (prefix_over t i (n - m) e (sym r ∙ q.0)) ∙ append-nil (prefix t m from)
 
 -- No part so far is `in`.
 pub record Seeking (t : List ℕ) (from n i m : ℕ) : Type 0 where
@@ -124,27 +122,27 @@ module _ {t : List ℕ} {from n i m : ℕ} (g : Seeking t from n i m) where
   pub seeking_end : n ≤ m → Before t from n None
   seeking_end l = let e : m ≡ n = omega (arith, g.upto) in rw e at g.free
 
-  module _ {p : Option (Range ℕ)} (q : (p ≡ next_of t i) × Placed t i p) where
-    pub seeking_over : p ≡ None → Before t from n None
+  module _ {p : Result (ℕ × ℕ) ℕ} (q : (p ≡ next_of t i) × Placed t i p) where
+    pub seeking_over : {e : ℕ} → p ≡ Err e → Before t from n None
     seeking_over r = rw (stepping_over g.steps q r g.upto) g.free
 
-    module _ (l : m < n) {x : Range ℕ} (r : p ≡ Some x) {b : Bool} (h : b ≡ same (codes "in") (part t x.start x.end)) where
+    module _ (l : m < n) {x : ℕ × ℕ} (r : p ≡ Ok x) {b : Bool} (h : b ≡ same (codes "in") (part t x.0 x.1)) where
       pub seeking_found : b ≡ true → Before t from n (Some m)
       seeking_found f =
           let z : m + suc (n - suc m) ≡ n = omega arith in
-          let a : prefix t n from ≡ prefix t m from ++ between t x.start x.end ∷ prefix t (n - suc m) x.end = rw z at (g.steps.so (suc (n - suc m))) ∙ ap (prefix t m from ++◌) (prefix-at t i (n - suc m) x (sym r ∙ q.0)) in
-          (omega arith, rw a (in_snoc (prefix t m from) (between t x.start x.end) (prefix t (n - suc m) x.end) g.free (same_sym (part t x.start x.end) (codes "in") ∙ sym h ∙ f)))
+          let a : prefix t n from ≡ prefix t m from ++ between t x.0 x.1 ∷ prefix t (n - suc m) x.1 = rw z at (g.steps.so (suc (n - suc m))) ∙ ap (prefix t m from ++◌) (prefix-at t i (n - suc m) x (sym r ∙ q.0)) in
+          (omega arith, rw a (in_snoc (prefix t m from) (between t x.0 x.1) (prefix t (n - suc m) x.1) g.free (same_sym (part t x.0 x.1) (codes "in") ∙ sym h ∙ f)))
 
-      pub seeking_more : b ≡ false → Seeking t from n x.end (m + 1)
+      pub seeking_more : b ≡ false → Seeking t from n x.1 (m + 1)
       seeking_more f = record {
         upto = omega arith;
         steps = stepping_more g.steps q r;
-        free = rw (stepped g.steps q r) (out_snoc (prefix t m from) (between t x.start x.end) g.free (same_sym (part t x.start x.end) (codes "in") ∙ sym h ∙ f));
+        free = rw (stepped g.steps q r) (out_snoc (prefix t m from) (between t x.0 x.1) g.free (same_sym (part t x.0 x.1) (codes "in") ∙ sym h ∙ f));
       }
 
-leads-length : (t : List ℕ) (x : Option (Range ℕ)) (ps : List Part) (n : ℕ) → length ps ≤ n → length (leads t x ps) ≤ suc n
-leads-length t None ps n h = omega arith
-leads-length t (Some p) ps n h = omega arith
+leads-length : (t : List ℕ) (x : Result (ℕ × ℕ) ℕ) (ps : List Part) (n : ℕ) → length ps ≤ n → length (leads t x ps) ≤ suc n
+leads-length t (Ok p) ps n h = omega arith
+leads-length t (Err e) ps n h = omega arith
 
 prefix-length : (t : List ℕ) (n i : ℕ) → length (prefix t n i) ≤ n
 unfolding prefix
@@ -156,7 +154,7 @@ module _ {t : List ℕ} {from i k : ℕ} (g : Stepping t from i k) where
   pub end-all : {m : ℕ} → k ≤ m → m ≤ k → 0 < m → i ≡ end_of (prefix t m from)
   end-all {m} h l z = let e : k ≡ m = omega arith in rw e at (sym (g.end (omega arith)))
 
-  pub end_over : {p : Option (Range ℕ)} (q : (p ≡ next_of t i) × Placed t i p) {m : ℕ} → p ≡ None → k < m → length (prefix t m from) ≡ m → {r : ℕ} → r ≡ end_of (prefix t m from)
+  pub end_over : {p : Result (ℕ × ℕ) ℕ} (q : (p ≡ next_of t i) × Placed t i p) {m e : ℕ} → p ≡ Err e → k < m → length (prefix t m from) ≡ m → {r : ℕ} → r ≡ end_of (prefix t m from)
   end_over q {m} r l c = let z = ap length (stepping_over g q {n = m} r (omega arith)) in absurd (omega (arith, z, prefix-length t k from, c))
 
 pub prefix_many : (t : List ℕ) (from n m : ℕ) → length (prefix t n from) ≡ n → m ≤ n → length (prefix t m from) ≡ m

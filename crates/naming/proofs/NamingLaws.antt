@@ -1,5 +1,5 @@
 -- Each decision of the code is a clause of `cut_name`: the longest prefix by its number of parts, the parts before `in`, a colon.
-use Rattle.std.specs.Prelude.{Option, None, Some}
+use Rattle.std.specs.Prelude.{Option, None, Some, Result, Ok, Err}
 use mathlib.Core.Path.{◌≡◌, refl, sym, ap, ◌∙◌, subst}
 use mathlib.Core.Bool.{Bool, true, false, cond}
 use mathlib.Core.List.{List, [], ◌∷◌}
@@ -23,7 +23,6 @@ use Rattle.lexer.specs.Parts.{Part}
 use Rattle.lexer.specs.TokenType
 use Rattle.lexer.specs.Token.{fuel}
 use Rattle.lexer.specs.Naming.{texts, name_of, end_of, starts_with, before_in, fits, longest, is_property, is_found, all_parts, by_prefix, cut_name, read_name}
-use Rattle.std.specs.declared.ops.Range.{Range}
 use Rattle.lexer.specs.declared.token.Outcome.{Outcome}
 use Rattle.lexer.specs.Places.{next_of, leads, prefix, Counted}
 use Rattle.lexer.specs.Fit.{fit, Longest}
@@ -113,9 +112,9 @@ module _ (f : Flags) (is_name : List ℕ → Bool) (t : List ℕ) (from n end : 
     in_later {m} b l c = ap (λ x. by_in_of f is_name t from n end (cond x (before_in (prefix t n from)) None)) e ∙ ap (by_in_of f is_name t from n end) b.1 ∙ some_in (prefix t m from) (omega arith)
 
 -- The first part alone decides on `item`.
-starts_leads : (t x : List ℕ) (p : Option (Range ℕ)) (ps qs : List Part) → starts_with x (leads t p ps) ≡ starts_with x (leads t p qs)
-starts_leads t x None ps qs = refl
-starts_leads t x (Some p) ps qs = refl
+starts_leads : (t x : List ℕ) (p : Result (ℕ × ℕ) ℕ) (ps qs : List Part) → starts_with x (leads t p ps) ≡ starts_with x (leads t p qs)
+starts_leads t x (Ok p) ps qs = refl
+starts_leads t x (Err e) ps qs = refl
 
 starts_one : (t x : List ℕ) (n i : ℕ) → 0 < n → starts_with x (prefix t n i) ≡ starts_with x (prefix t 1 i)
 unfolding prefix

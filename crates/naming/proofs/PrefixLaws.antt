@@ -1,5 +1,5 @@
 -- A prefix is spelled at scratch's front, flattened there and wiped away, so that the search from the longest one down sees scratch unchanged.
-use Rattle.std.specs.Prelude.{Option, None, Some}
+use Rattle.std.specs.Prelude.{Result, Ok, Err}
 use mathlib.Core.Path.{◌≡◌, refl, sym, ap, ◌∙◌, subst}
 use mathlib.Core.Bool.{Bool, true, false, cond, ◌&&◌, false≢true}
 use mathlib.Core.List.{List, [], ◌∷◌, ◌++◌, map}
@@ -26,7 +26,6 @@ use Rattle.names.proofs.NameLaws.{spelled_by_space}
 use Rattle.scope.specs.Capped.{Capped}
 use Rattle.lexer.specs.Flags.{Flags}
 use Rattle.lexer.specs.Naming.{texts, fits, is_property, is_found}
-use Rattle.std.specs.declared.ops.Range.{Range}
 use Rattle.lexer.specs.Places.{next_of, leads, end_of, Placed, prefix, spelling}
 use Rattle.lexer.specs.Fit.{fit, Clear, Asked, Longest}
 use Rattle.lexer.proofs.WalkLaws.{next_placed}
@@ -56,13 +55,13 @@ laid-length true p = omega arith
 laid-length false p = omega arith
 
 module _ (t : List ℕ) (new : Bool) where
-  spelled-leads : (n i : ℕ) (b : Bool) (x : Option (Range ℕ)) → Placed t i x → ((e : ℕ) (c : Bool) → e ≤ length t → length (spelled new c (map trim (texts (prefix t n e)))) ≤ 2 * (length t - e))
+  spelled-leads : (n i : ℕ) (b : Bool) (x : Result (ℕ × ℕ) ℕ) → Placed t i x → ((e : ℕ) (c : Bool) → e ≤ length t → length (spelled new c (map trim (texts (prefix t n e)))) ≤ 2 * (length t - e))
       → length (spelled new b (map trim (texts (leads t x (prefix t n (end_of x)))))) ≤ 2 * (length t - i)
   unfolding spelled
-  spelled-leads n i b None k f = omega arith
-  spelled-leads n i b (Some x) k f =
-      let p = trim (part t x.start x.end) in
-      omega (arith, length-append (laid (tied new b p) p) (spelled new (new && is_symbol_text p) (map trim (texts (prefix t n x.end)))), laid-length (tied new b p) p, trim-length (part t x.start x.end), part_length t x.start x.end k.2, f x.end (new && is_symbol_text p) k.2, k.0, k.1)
+  spelled-leads n i b (Err e) k f = omega arith
+  spelled-leads n i b (Ok x) k f =
+      let p = trim (part t x.0 x.1) in
+      omega (arith, length-append (laid (tied new b p) p) (spelled new (new && is_symbol_text p) (map trim (texts (prefix t n x.1)))), laid-length (tied new b p) p, trim-length (part t x.0 x.1), part_length t x.0 x.1 k.2, f x.1 (new && is_symbol_text p) k.2, k.0, k.1)
 
   spelled-fits : (n i : ℕ) (b : Bool) → i ≤ length t → length (spelled new b (map trim (texts (prefix t n i)))) ≤ 2 * (length t - i)
   unfolding prefix spelled

@@ -34,8 +34,8 @@ fn next_is(rest: &[u32], i: usize, word: &[u8]) -> bool
     ensures { result ≡ spec.starts_with word.now (prefix rest.now 1 i) }
 {
     match parts::next_part(rest, i) {
-        Some(part) => names::fixed::is(&rest[part], word),
-        None => false,
+        Ok((start, end)) => names::fixed::is(&rest[start..end], word),
+        Err(_) => false,
     }
 }
 
@@ -56,9 +56,11 @@ fn before_in(name: Name) -> Option<usize>
 {
     let mut i = name.from;
     for m in 0..name.parts {
-        let part = parts::next_part(name.rest, i)?;
-        i = part.end;
-        if names::fixed::is(&name.rest[part], b"in") {
+        let Ok((start, end)) = parts::next_part(name.rest, i) else {
+            return None;
+        };
+        i = end;
+        if names::fixed::is(&name.rest[start..end], b"in") {
             return Some(m);
         }
     }
@@ -72,10 +74,10 @@ fn end_of(name: Name, m: usize) -> usize
 {
     let mut i = name.from;
     for _ in 0..m {
-        let Some(part) = parts::next_part(name.rest, i) else {
+        let Ok((_, end)) = parts::next_part(name.rest, i) else {
             return i;
         };
-        i = part.end;
+        i = end;
     }
     i
 }

@@ -10,7 +10,6 @@ use runs::item::{Item, Row};
 use runs::room::Room;
 use scope::lent::Lent;
 use scope::scope::{Scope, Slot};
-use std::io::Read;
 use std::{fmt, io};
 use text::refusal::Refusal;
 
@@ -83,10 +82,10 @@ fn print_text(rt: &impl Print, text: &[u32]) -> io::Result<()> {
 }
 
 fn main(rt: HostRuntime) -> io::Result<()> {
-    let mut bytes = Vec::new(rt.alloc());
-    rt.reader().take(MAX_INPUT as u64).read_to_end(&mut bytes)?;
+    let mut bytes = [0u8; MAX_INPUT];
+    let n = input::read_full(&rt, &mut bytes)?;
     let mut cells = [0; MAX_INPUT];
-    match text::utf8::open_bytes(&bytes, &mut cells) {
+    match text::utf8::open_bytes(&bytes[..n], &mut cells) {
         Ok(text) => print_text(&rt, &cells[..text.chars]),
         Err(refused) => print_refusal(&rt, refused.refusal, refused.place),
     }

@@ -5,14 +5,11 @@
 
 use printing::print;
 use std::io;
-use std::io::Read;
 
 fn main(rt: HostRuntime) -> io::Result<()> {
-    let mut input = Vec::new(rt.alloc());
-    rt.reader()
-        .take(print::MAX_INPUT as u64 + 1)
-        .read_to_end(&mut input)?;
+    let mut bytes = [0u8; print::MAX_INPUT + 1];
+    let read = input::read_full(&rt, &mut bytes)?;
     let mut out = [0u8; print::MAX_PRINTED];
-    let n = print::print(&input, &mut out);
+    let n = print::print(&bytes[..read], &mut out);
     rt.write_all(&out[..n])
 }

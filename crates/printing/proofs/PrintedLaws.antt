@@ -21,7 +21,7 @@ use Rattle.lexer.specs.Token.{read_token}
 use Rattle.runs.specs.declared.call.Counts.{Counts}
 use Rattle.runs.proofs.RunCallLaws.{made_of, refused_by}
 use Rattle.std.specs.Prelude.{Result, Ok, Err}
-use Rattle.text.specs.Refusals.{number_of}
+use Rattle.text.specs.RefusalNumber.{number_of}
 use Rattle.text.specs.declared.refusal.Refusal.{Refusal}
 use Rattle.runs.specs.Item.{Item}
 use Rattle.runs.specs.Run.{run_items}

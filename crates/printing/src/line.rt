@@ -1,7 +1,7 @@
 // The lines of a record, and the line of a refused opening.
 ghost use Rattle.std.specs.Prelude.{◌≡◌, cond, [], ◌++◌, ◌+◌, ◌≤◌, eqb, length};
 ghost use Rattle.reading.specs.Codes.{codes};
-ghost use Rattle.text.specs.Refusals.{number_of};
+ghost use Rattle.text.specs.RefusalNumber.{number_of};
 ghost use Rattle.runs.specs.Record.{item_of, unpack};
 ghost use Rattle.runs.specs.Print as spec;
 ghost use Rattle.printing.specs.Room.{max_printed};

@@ -164,7 +164,7 @@ fn hosts<C: Fn(Lexer, &[u32], Lent, &mut [u32], &mut [u32]) -> Called>(
     Ok(())
 }
 
-// A call from the third character on, of at most 16.
+// A call from the third character on, with just the room that it asks for.
 pub fn behind<C: Fn(Lexer, &[u32], Lent, &mut [u32], &mut [u32]) -> Called>(
     rt: &impl Print,
     next_token: &C,
@@ -172,7 +172,8 @@ pub fn behind<C: Fn(Lexer, &[u32], Lent, &mut [u32], &mut [u32]) -> Called>(
 ) -> io::Result<()>
     requires { C.IsAlwaysCallable next_token.now }
 {
-    called(rt, next_token, state(2, false), text, 1, 16, 32)
+    let n = text.len();
+    called(rt, next_token, state(2, false), text, 1, n, 2 * n)
 }
 
 pub fn tried(rt: &impl Print) -> io::Result<()> {

@@ -60,14 +60,15 @@ static HOSTS: [[usize; 5]; 9] = [
     [0, 1, 2, 0, 0],
 ];
 
-// A token call, by value and on a lent lexer, and a run that the text refuses.
+// A token call, by value and on a lent lexer, and a run that the text refuses, with just the room that they ask for.
 fn both(rt: &impl Print, text: &[u32]) -> io::Result<()> {
     print!(rt; ": ")?;
     lexing::behind(rt, &call::next_token, text)?;
     print!(rt; "  lent: ")?;
     lexing::behind(rt, &lexing::on_lent, text)?;
     print!(rt; "  run: ")?;
-    run(rt, text, Flags::ALL, 1, 18, 16, 32)
+    let n = text.len();
+    run(rt, text, Flags::ALL, 1, n + 2, n, 2 * n)
 }
 
 // Texts in ASCII, whose first token is `1`, and which are refused behind that: refusals 3, 4, 5 twice, 6, 7 and 8.

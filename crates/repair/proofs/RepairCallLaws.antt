@@ -8,7 +8,8 @@ use Rattle.std.specs.Prelude.{Ok, Err}
 use Rattle.text.specs.declared.refusal.Refusal.{Refusal}
 use Rattle.text.specs.declared.refusal.Refusal.TheVariants.{BrokenRequest}
 use Rattle.reading.specs.Slices.{zeros}
-use Rattle.text.specs.Refusals.{broken_request, number_of}
+use Rattle.text.specs.Refusals.{broken_request}
+use Rattle.text.specs.RefusalNumber.{number_of}
 use Rattle.scope.specs.Keys.{is_name}
 use Rattle.scope.specs.Lent.{Lent, scope_of}
 use Rattle.lexer.specs.Token.{read_token}

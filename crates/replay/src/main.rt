@@ -16,15 +16,17 @@ use runs::room::Room;
 use scope::lent::Lent;
 use scope::scope::{Scope, Slot};
 use std::io;
-use std::io::{BufRead, BufReader};
 use text::utf8::Text;
 
-// A case and its record.
-fn print_case(rt: &impl Print, line: &str) -> io::Result<()> {
+// There is room for the stored cases; of a longer input the rest is not read.
+const MAX_INPUT: usize = 262_144;
+
+// A case and its record; the case is a line without its end, of whatever bytes.
+fn print_case(rt: &impl Print, line: &[u8]) -> io::Result<()> {
     let mut text = [0u32; Text::MAX_CHARS];
     let mut slots = [[0u32; Slot::NUMBERS]; Scope::ROWS];
     let mut names = [[0u32; Scope::MAX_NAME]; Scope::ROWS];
-    let mut fields = Fields::new(line.as_bytes());
+    let mut fields = Fields::new(line);
     fields.next_field();
     let start_type = fields.decimal();
     let flags = Flags::from_bits(fields.decimal());
@@ -43,6 +45,7 @@ fn print_case(rt: &impl Print, line: &str) -> io::Result<()> {
         slots: &slots,
         names: &names,
     };
+    rt.write_all(line)?;
     match runs::run::run(&text[..n], start_type, flags, scope, &mut room) {
         Ok(Counts { items, cells }) => {
             let Room { rows, store, .. } = room;
@@ -50,18 +53,20 @@ fn print_case(rt: &impl Print, line: &str) -> io::Result<()> {
                 rows: &rows[..items],
                 store: &store[..cells],
             });
-            println!(rt; "{line} {record}")
+            println!(rt; " {record}")
         }
         Err(refusal) => {
             let n = u32::from(refusal);
-            println!(rt; "{line} refused with {n}")
+            println!(rt; " refused with {n}")
         }
     }
 }
 
 fn main(rt: HostRuntime) -> io::Result<()> {
-    for line in BufReader::new(rt.alloc(), rt.reader())?.lines(rt.alloc()) {
-        print_case(&rt, line?.as_str())?;
+    let mut bytes = [0u8; MAX_INPUT];
+    let n = input::read_full(&rt, &mut bytes)?;
+    for line in bytes[..n].split_inclusive(|b| *b == b'\n') {
+        print_case(&rt, line.strip_suffix(b"\n").unwrap_or(line))?;
     }
     Ok(())
 }

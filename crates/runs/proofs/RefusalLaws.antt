@@ -7,7 +7,7 @@ use lib.Dec.{eqb}
 use Rattle.std.specs.Prelude.{Result, Ok, Err}
 use Rattle.text.specs.declared.refusal.Refusal.{Refusal}
 use Rattle.text.specs.declared.refusal.Refusal.TheVariants.{TooLong, NotUtf8, NoHexDigit, EndAtHexDigit, NoScalarValue, NoSecondHalf, EndAtSecondHalf, StartsWithIn, ShortSlice, BrokenScope, OverLimit, BeyondText, BrokenRequest}
-use Rattle.text.specs.Refusals.{number_of}
+use Rattle.text.specs.RefusalNumber.{number_of}
 use Rattle.runs.specs.Ran.{numbered}
 
 pub numbers_pos : (e : Refusal) → 0 < number_of e

@@ -8,7 +8,7 @@ use Rattle.lexer.specs.TokenType as type
 use Rattle.lexer.specs.TypeNumber.{type_number}
 use Rattle.lexer.specs.declared.token_type.TokenType.{TokenType}
 use Rattle.lexer.specs.Flags.{Flags}
-use Rattle.text.specs.Refusals as text
+use Rattle.text.specs.RefusalNumber as text
 use Rattle.text.specs.declared.refusal.Refusal.{Refusal}
 use Rattle.runs.specs.declared.item.Item.{Item}
 use Rattle.runs.specs.declared.item.Value.{Value}

@@ -1,7 +1,8 @@
 -- What the code of the calls answers and leaves, in the terms of the definitions.
 use Rattle.std.specs.Prelude.{◌≡◌, false, cond, ◌&&◌, List, [], ◌++◌, ℕ, ◌+◌, ◌-◌, ◌*◌, ◌≤◌, leb, ltb, length, Result, Ok, Err}
 use Rattle.text.specs.Limits.{max_chars}
-use Rattle.text.specs.Refusals.{too_long, short_slice, broken_scope, number_of}
+use Rattle.text.specs.Refusals.{too_long, short_slice, broken_scope}
+use Rattle.text.specs.RefusalNumber.{number_of}
 use Rattle.text.specs.declared.refusal.Refusal.{Refusal}
 use Rattle.scope.specs.Lent.{Lent, is_broken}
 use Rattle.lexer.specs.Flags.{Flags}

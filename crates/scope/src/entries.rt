@@ -63,7 +63,7 @@ impl<'a> Entry<'a> {
     pub fn is_same(self, other: Entry) -> bool
         ensures { result ≡ (eqb other.entry.depth self.entry.depth && same other.entry.name.now self.entry.name.now) }
     {
-        other.depth == self.depth && other.name == self.name
+        other.depth == self.depth && names::same::same(other.name, self.name)
     }
 }
 

@@ -41,7 +41,7 @@ impl<'a> Rows<'a> {
         ensures { result ≡ member name.now (drop from (map (λ e. e.name) (all_held self.entry.slots.now self.entry.names.now))) }
     {
         for i in from..self.count() {
-            if self.at(i).name == name {
+            if names::same::same(self.at(i).name, name) {
                 return true;
             }
         }

@@ -28,7 +28,7 @@ use text::refusal::Refusal;
 fn stays_beside(e: Entry, cut: u32, name: &[u32]) -> bool
     ensures { result ≡ stays_beside cut (viewed e.entry) name.now }
 {
-    e.depth < cut && !(e.depth == 0 && e.name == name)
+    e.depth < cut && !(e.depth == 0 && names::same::same(e.name, name))
 }
 
 // How many entries from `from` on stay. Counted before anything moves, since a call that is refused changes nothing.

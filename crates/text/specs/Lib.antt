@@ -1,5 +1,6 @@
 pub mod Limits
 pub mod Refusals
+pub mod RefusalNumber
 pub mod Ranges
 pub mod Classes
 pub mod Hex

@@ -1,7 +1,7 @@
 -- What the code of opening answers, in the terms of the definitions.
 use Rattle.std.specs.Prelude.{cond, List, ℕ, ◌≤◌, eqb, length, Result, Ok, Err}
 use Rattle.reading.specs.Slices.{front}
-use Rattle.text.specs.Refusals.{number_of}
+use Rattle.text.specs.RefusalNumber.{number_of}
 use Rattle.text.specs.Utf8.{Decoded, chars, bad_at, Opened, opened, refused}
 use Rattle.text.specs.declared.utf8.Text.{Text}
 use Rattle.text.specs.declared.utf8.Refused.{Refused}

@@ -1,6 +1,7 @@
 // The refusals: their numbers are 01's.
 ghost use Rattle.std.specs.Prelude.{◌≡◌};
 ghost use Rattle.text.specs.Refusals as spec;
+ghost use Rattle.text.specs.RefusalNumber.{number_of};
 
 // Why a call does nothing. The first eight are caused by the author's text, the others by the host.
 #[derive(Clone, Copy, Debug, PartialEq, Eq)]
@@ -22,7 +23,7 @@ pub enum Refusal {
 
 // Ruled out, among others: a refusal that is another number than 01's.
 impl From<Refusal> for u32 {
-    ghost from_gives = { λ r n. n ≡ spec.number_of r };
+    ghost from_gives = { λ r n. n ≡ number_of r };
 
     fn from(r: Refusal) -> u32 {
         r as u32

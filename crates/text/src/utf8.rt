@@ -98,7 +98,8 @@ fn read_long(b: u8, rest: &[u8]) -> Option<(u32, usize)>
     Some((c, k))
 }
 
-// The character that the bytes begin with, and the length of its sequence.
+// The character that the bytes begin with, and the length of its sequence. Most are one byte, for which a call would cost more than the answer.
+#[inline]
 fn read_sequence(bytes: &[u8]) -> Option<(u32, usize)>
     ensures sequence { result ≡ spec.sequence bytes.now }
     ensures within { MatchOption result ⊤ (λ s. (1 ≤ s.1) × (s.1 ≤ length bytes.now)) }

@@ -14,7 +14,8 @@ use Rattle.reading.specs.Cells.{maybe}
 use Rattle.reading.specs.Slices.{zeros}
 use Rattle.reading.proofs.Test.{by_test}
 use Rattle.text.specs.Limits.{max_chars}
-use Rattle.text.specs.Refusals.{too_long, short_slice, broken_scope, beyond_text, number_of}
+use Rattle.text.specs.Refusals.{too_long, short_slice, broken_scope, beyond_text}
+use Rattle.text.specs.RefusalNumber.{number_of}
 use Rattle.scope.specs.Entries.{ParsingScope}
 use Rattle.scope.specs.Keys.{is_name}
 use Rattle.scope.specs.Lent.{Lent, is_broken, scope_of}

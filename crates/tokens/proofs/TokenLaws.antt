@@ -39,7 +39,7 @@ use Rattle.words.specs.Keywords.{value_of, Matched, Says}
 use Rattle.lexer.specs.FlagsOf.{flags_of}
 use Rattle.lexer.specs.Taken.{Gives, Takes, Taken}
 use Rattle.lexer.specs.declared.number.Number.{Number}
-use Rattle.text.specs.Refusals.{number_of}
+use Rattle.text.specs.RefusalNumber.{number_of}
 use Rattle.lexer.specs.declared.string.Literal.{Literal}
 use Rattle.lexer.specs.declared.string.Literal.TheVariants.{Chars as StringChars, LineEnds, TextEnds}
 use Rattle.lexer.specs.declared.string.Broken.{Broken}

@@ -2,7 +2,8 @@
 use Rattle.std.specs.Prelude.{◌≡◌, cond, ◌||◌, List, ℕ, ◌*◌, ltb, Option, None, Some, Result, Ok, Err}
 use Rattle.reading.specs.Slices.{front}
 use Rattle.text.specs.Limits.{max_chars}
-use Rattle.text.specs.Refusals.{too_long, short_slice, broken_scope, beyond_text, number_of}
+use Rattle.text.specs.Refusals.{too_long, short_slice, broken_scope, beyond_text}
+use Rattle.text.specs.RefusalNumber.{number_of}
 use Rattle.scope.specs.Lent.{Lent, is_broken}
 use Rattle.scope.specs.Answers.{lent}
 use Rattle.scope.specs.declared.lent.Lent.{Lent as CodeLent}

@@ -4,7 +4,7 @@ use Rattle.lexer.proofs.BoundLaws.{bounding_over, bounding_more}
 use Rattle.lexer.proofs.bound.bound.Goals as goal
 
 pub returns-then-cap-total : goal.returns-then-cap-total
-returns-then-cap-total c = bounding_over c.loop-m.invariant c.next_part.ensures c.in-Some.is (omega arith) (c.ink_of.ensures.ink, c.ink_of.ensures.within) (omega arith)
+returns-then-cap-total c = bounding_over c.loop-m.invariant c.next_part.ensures c.in-Ok.is (omega arith) (c.ink_of-total.ensures.ink, c.ink_of-total.ensures.within) (omega arith)
 
 pub loop-m-preserved : goal.loop-m-preserved
-loop-m-preserved c = bounding_more c.loop-m.invariant c.next_part.ensures c.in-Some.is (omega arith) (c.ink_of.ensures.ink, c.ink_of.ensures.within)
+loop-m-preserved c = bounding_more c.loop-m.invariant c.next_part.ensures c.in-Ok.is (omega arith) (c.ink_of-total.ensures.ink, c.ink_of-total.ensures.within)

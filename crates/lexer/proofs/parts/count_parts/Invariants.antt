@@ -4,8 +4,8 @@ use lib.ListN.{length}
 use Rattle.lexer.proofs.WalkLaws.{Passing}
 use Rattle.lexer.proofs.parts.count_parts.Given as goal
 
-abbrev pub invariant-loop-part : goal.invariant-loop-part
-invariant-loop-part l = Passing l.rest l.from l.i l.parts
+abbrev pub invariant-loop-e : goal.invariant-loop-e
+invariant-loop-e l = Passing l.rest l.from l.i l.parts
 
-abbrev pub decreases-loop-part : goal.decreases-loop-part
-decreases-loop-part l = length l.rest - l.i
+abbrev pub decreases-loop-e : goal.decreases-loop-e
+decreases-loop-e l = length l.rest - l.i

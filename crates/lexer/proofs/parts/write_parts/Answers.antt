@@ -11,13 +11,13 @@ pub returns-in_default : goal.returns-in_default
 returns-in_default c = let w = spelling_over c.loop.invariant.spelling c.next_part.ensures c.in_default.is in grind (arith, common_steps, w)
 
 pub add_part-requires : goal.add_part-requires
-add_part-requires c = spelling-room c.loop.invariant.spelling c.next_part.ensures (omega arith) c.requires.1 c.in-Some.is c.trim-part.ensures.value c.is_tied-tied.ensures
+add_part-requires c = spelling-room c.loop.invariant.spelling c.next_part.ensures (omega arith) c.requires.1 c.in-Ok.is c.trim-part.ensures.value c.is_tied-tied.ensures
 
 pub loop-preserved : goal.loop-preserved
 loop-preserved c =
     let a = c.add_part.ensures in
     record {
-      spelling = spelling_more c.loop.invariant.spelling c.next_part.ensures (omega arith) c.requires.1 c.in-Some.is c.trim-part.ensures.value c.is_tied-tied.ensures a.further c.ends_tight-tight.ensures;
+      spelling = spelling_more c.loop.invariant.spelling c.next_part.ensures (omega arith) c.requires.1 c.in-Ok.is c.trim-part.ensures.value c.is_tied-tied.ensures a.further c.ends_tight-tight.ensures;
       same_reference = a.same_reference ∙ c.loop.invariant.same_reference;
     }
 

@@ -10,4 +10,4 @@ pub returns-in_default : goal.returns-in_default
 returns-in_default c = end_over c.loop.invariant c.next_part.ensures c.in_default.is (omega arith) (prefix_many _ _ _ _ c.args.name.counted.count (omega arith))
 
 pub loop-preserved : goal.loop-preserved
-loop-preserved c = stepping_more c.loop.invariant c.next_part.ensures c.in-Some.is
+loop-preserved c = stepping_more c.loop.invariant c.next_part.ensures c.in-Ok.is

@@ -1,7 +1,8 @@
 -- The way out tells how the bytes were opened.
 use Rattle.std.proofs.Common.{refl, ap, length, ◌∙◌, replicate, arith}
 use Rattle.text.specs.Opening.{answered}
-use Rattle.text.specs.Refusals.{number_of, too_long}
+use Rattle.text.specs.Refusals.{too_long}
+use Rattle.text.specs.RefusalNumber.{number_of}
 use Rattle.printing.proofs.RoomLaws.{refused_short}
 use Rattle.printing.proofs.PrintedLaws.{printed_refused}
 use Rattle.printing.proofs.printed.put_printed.Goals as goal

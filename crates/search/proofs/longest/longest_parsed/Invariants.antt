@@ -1,10 +1,15 @@
--- No name passed is longer.
-use Prim.Native.Nat.{ℕ, ◌<◌, ◌≤◌}
+-- The length of the longest name passed.
+use mathlib.Core.Path.{◌≡◌}
+use mathlib.Core.List.{[], map}
+use Prim.Native.Nat.{◌≤◌}
 use lib.ListN.{length, get_or}
 use Rattle.scope.specs.Limits.{max_name}
 use Rattle.scope.specs.Sound.{rows_entries}
-use Rattle.scope.specs.Viewed.{no_entry}
+use Rattle.search.specs.Longest.{most}
 use Rattle.search.proofs.longest.longest_parsed.Given as goal
 
 abbrev pub invariant-loop-i : goal.invariant-loop-i
-invariant-loop-i l = (l.longest ≤ max_name) × ((j : ℕ) → j < l.i → length (get_or (rows_entries l.parsed) j no_entry).name ≤ l.longest)
+invariant-loop-i l = record {
+  value : l.longest ≡ most (λ j. length (get_or (map (λ e. e.name) (rows_entries l.parsed)) j [])) l.i;
+  within : l.longest ≤ max_name;
+}

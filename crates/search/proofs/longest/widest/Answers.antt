@@ -1,4 +1,4 @@
--- The numbers cover the names of the entries passed.
+-- Each number is the most that a name passed adds at its depth.
 use mathlib.Core.Path.{sym, ◌∙◌}
 use mathlib.Core.List.{[]}
 use Prim.Native.Nat.{◌≤◌}
@@ -9,7 +9,7 @@ use Rattle.scope.specs.Answers.{lent}
 use Rattle.scope.specs.Sound.{rows_entries}
 use Rattle.scope.proofs.SoundLaws.{sound}
 use Rattle.scope.proofs.BrokenLaws.{ranged, broken_all}
-use Rattle.search.proofs.WidthLaws.{short_held, seen_none, seen_more, seen_all}
+use Rattle.search.proofs.WidthLaws.{short_held, seen_none, seen_more, seen_value, seen_within}
 use Rattle.search.proofs.longest.widest.Goals as goal
 use Rattle.search.proofs.longest.widest.Goals.{After-at-e}
 
@@ -35,7 +35,12 @@ pub loop-i-preserved : goal.loop-i-preserved
 loop-i-preserved c =
     let r = in_range ((goal.at.loop-i-preserved c).After-at-e) in
     let s = c.loop-i.invariant in
-    seen_more _ c.loop-i.i c.loop-i.widest _ s c.at-e.ensures r.0 (omega arith) (omega arith) (omega (arith, s.small c.at-e.result.depth))
+    seen_more _ c.loop-i.i c.loop-i.widest _ s c.at-e.ensures r.0 (omega arith) (omega (arith, s.small c.at-e.result.depth))
 
 pub returns : goal.returns
-returns c = rw (← c.entries-entries.ensures) (seen_all (rows_entries c.entries-entries.result) c.loop-i.i c.loop-i.widest c.loop-i.invariant (omega arith))
+returns c =
+    let es = rows_entries c.entries-entries.result in
+    record {
+      value = rw (← c.entries-entries.ensures) (seen_value es c.loop-i.invariant (omega arith));
+      within = seen_within es c.loop-i.invariant;
+    }

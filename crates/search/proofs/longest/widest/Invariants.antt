@@ -1,4 +1,4 @@
--- The numbers cover the names of the entries passed.
+-- Each number is the most that a name passed adds at its depth.
 use Rattle.scope.specs.Sound.{rows_entries}
 use Rattle.search.proofs.WidthLaws.{Seen}
 use Rattle.search.proofs.longest.widest.Given as goal

@@ -1,7 +1,7 @@
 -- Each number is its refusal's.
 use Rattle.std.proofs.Common.{◌≡◌, ◌<◌, get_or, map, ◌∙◌, sym, arith, rules}
 use Rattle.std.proofs.lemmas.List.{ext_get_or, get_or-map}
-use Rattle.text.specs.Refusals.{number_of}
+use Rattle.text.specs.RefusalNumber.{number_of}
 use Rattle.text.specs.declared.refusal.Refusal.TheVariants.{TooLong}
 use Rattle.text.specs.declared.refusal.TheConstants.Refusal.{ALL}
 use Rattle.text.proofs.refusal.numbers.Goals as goal

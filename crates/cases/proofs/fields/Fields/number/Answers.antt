@@ -29,5 +29,5 @@ loop-b-preserved c =
 pub returns : goal.returns
 returns c =
     let v = c.loop-b.invariant in
-    let q = digits_stop v.3 (digits-end _ _ _ _ (rest_out _ _ _ v.2 v.1 c.args.self.now.within c.loop-b-test.false)) in
+    let q = digits_stop v.3 (digits-end _ _ _ _ (rest_out _ _ _ v.2 v.1 c.loop-b-test.false)) in
     (q.0, v.0, q.1)

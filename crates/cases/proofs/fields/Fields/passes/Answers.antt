@@ -4,5 +4,5 @@ use lib.Dec.{eqb}
 use Rattle.reading.proofs.Cell.{cell_there}
 use Rattle.cases.proofs.fields.Fields.passes.Goals as goal
 
-pub invariant_of-self : goal.invariant_of-self
-invariant_of-self c = record { within = omega (arith, cell_there (eqb _) _ _ (sym c.is-is.ensures ∙ c.if-is.true)) }
+pub overflow_add-self : goal.overflow_add-self
+overflow_add-self c = omega (arith, cell_there (eqb _) _ _ (sym c.is-is.ensures ∙ c.if-is.true))
