@@ -1,5 +1,5 @@
 // What is lent, filled with one number or letter, and longer than the limits ask for.
-ghost use Rattle.std.specs.Prelude.{◌≡◌, ◌+◌, ◌*◌, length, replicate};
+ghost use Rattle.std.specs.Prelude.{◌≡◌, ◌+◌, ◌*◌, min, length, take, replicate};
 ghost use Rattle.text.specs.Limits.{max_chars, max_bytes};
 ghost use Rattle.scope.specs.Limits.{max_entries, max_parsed, max_name};
 
@@ -52,11 +52,15 @@ pub fn bytes() -> [u8; Text::MAX_BYTES + 1]
 }
 
 // The first n elements, or all where there are fewer.
-pub fn front<T>(s: &[T], n: usize) -> &[T] {
+pub fn front<T>(s: &[T], n: usize) -> &[T]
+    ensures { result.now ≡ take (min n (length s.now)) s.now }
+{
     &s[..n.min(s.len())]
 }
 
-pub fn front_mut<T>(s: &mut [T], n: usize) -> &mut [T] {
+pub fn front_mut<T>(s: &mut [T], n: usize) -> &mut [T]
+    ensures { result.now ≡ take (min n (length s.old)) s.old }
+{
     let end = n.min(s.len());
     &mut s[..end]
 }
