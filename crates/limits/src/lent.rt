@@ -38,9 +38,8 @@ fn popped(
     println!(rt; "{words}: {answer}")
 }
 
-pub fn tried(rt: &impl Print) -> io::Result<()> {
-    println!(rt; "Lent lists and scopes")?;
-    beyond(rt)?;
+// Broken scopes, and one that is not.
+fn broken(rt: &impl Print) -> io::Result<()> {
     let mut slots = [[0; Slot::NUMBERS]; Scope::ROWS];
     let names = [[0; Scope::MAX_NAME]; Scope::ROWS];
     popped(rt, "33 contexts", 33, 0, &slots, &names)?;
@@ -55,4 +54,10 @@ pub fn tried(rt: &impl Print) -> io::Result<()> {
         &slots,
         &names,
     )
+}
+
+pub fn tried(rt: &impl Print) -> io::Result<()> {
+    println!(rt; "Lent lists and scopes")?;
+    beyond(rt)?;
+    broken(rt)
 }

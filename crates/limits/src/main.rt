@@ -55,12 +55,19 @@ fn step(rt: &impl Print, line: &[u8], held: &mut Held) -> io::Result<()> {
     rt.write_all(b"\n")
 }
 
+// The lines, one after another.
+fn all(rt: &impl Print, bytes: &[u8]) -> io::Result<()> {
+    let mut held = Held::opened();
+    for line in bytes.split_inclusive(|b| *b == b'\n') {
+        step(rt, line.strip_suffix(b"\n").unwrap_or(line), &mut held)?;
+    }
+    Ok(())
+}
+
+// Each part has rows of its own, which are gone when the next begins.
 fn main(rt: HostRuntime) -> io::Result<()> {
     let mut bytes = [0u8; MAX_INPUT];
     let n = input::read_full(&rt, &mut bytes)?;
-    let mut held = Held::opened();
-    for line in bytes[..n].split_inclusive(|b| *b == b'\n') {
-        step(&rt, line.strip_suffix(b"\n").unwrap_or(line), &mut held)?;
-    }
+    all(&rt, &bytes[..n])?;
     lent::tried(&rt)
 }
