@@ -5,3 +5,4 @@ pub mod EntryLaws
 pub mod AfterLaws
 pub mod CallLaws
 pub mod PlaceLaws
+pub mod WithinLaws

@@ -1,5 +1,5 @@
 -- The first space ends a field.
-use Rattle.std.proofs.Common.{◌≡◌, ℕ, suc, ◌+◌, ◌-◌, ◌<◌, ◌≤◌, min, max, Bool, true, false, not, cond, List, [], ◌∷◌, length, take, drop, add-zero, refl, ap, ◌∙◌, arith, length-drop, get_or, get_or-drop}
+use Rattle.std.proofs.Common.{◌≡◌, ℕ, suc, ◌+◌, ◌<◌, ◌≤◌, min, max, Bool, true, false, not, cond, List, [], ◌∷◌, length, drop, add-zero, refl, ap, ◌∙◌, arith, length-drop, get_or, get_or-drop}
 use Rattle.std.specs.Prelude.{Option, Some, None}
 use Rattle.std.specs.Option.{option_eq}
 use Rattle.std.specs.List.{slice_get, prefix_len, position, position_or_len}
@@ -20,7 +20,7 @@ module _ (p : ℕ → Bool) where
   pub missed : (xs : List ℕ) → None ≡ position p xs → length xs ≤ position_or_len p xs
   missed xs e = by_test (λ (o : Option ℕ). None ≡ o → length xs ≤ position_or_len p xs) (ltb (position_or_len p xs) (length xs)) (λ t e. absurd (cc)) (λ f e. ltb-false (position_or_len p xs) (length xs) f) e
 
-next_is : (xs : List ℕ) → to_next xs ≡ min (position_or_len (λ x. eqb x 0x20) xs + 1) (length xs)
+pub next_is : (xs : List ℕ) → to_next xs ≡ min (position_or_len (λ x. eqb x 0x20) xs + 1) (length xs)
 unfolding to_next
 next_is [] = omega arith
 next_is (x ∷ xs) =

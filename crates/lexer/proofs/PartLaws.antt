@@ -29,9 +29,12 @@ module _ (t : List ℕ) (i : ℕ) {a : Bool} (p : a ≡ holds is_name_part (cell
     unfolding here_of
     here_symbol g = let l = cell_there is_symbol t i (sym q ∙ g) in (rw (sym p ∙ f, sym q ∙ g), (omega arith, omega arith, omega arith))
 
-    pub here_none : b ≡ false → i ≤ length t → (Err i ≡ here_of t i) × Placed t i (Err i)
+    pub here_over : b ≡ false → Err i ≡ here_of t i
     unfolding here_of
-    here_none g l = (rw (sym p ∙ f, sym q ∙ g), (omega arith, l))
+    here_over g = rw (sym p ∙ f, sym q ∙ g)
+
+    pub here_none : b ≡ false → i ≤ length t → (Err i ≡ here_of t i) × Placed t i (Err i)
+    here_none g l = (here_over g, (omega arith, l))
 
 -- The next part must start right here where a word or a symbol does, and else behind the whitespace.
 module _ (t : List ℕ) (i : ℕ) where

@@ -36,15 +36,18 @@ use Rattle.naming.specs.Cut.{Before, Roomy}
 use Rattle.lexer.proofs.PartLaws.{prefix-at, prefix_over}
 use Rattle.lexer.proofs.WalkLaws.{prefix-take}
 
--- The first part alone.
+-- The first part alone, or none where the walk ends.
+pub starts_over : (t : List ℕ) (i e : ℕ) (x : List ℕ) → Err e ≡ next_of t i → false ≡ starts_with x (prefix t 1 i)
+unfolding prefix
+starts_over t i e x q = rw (← q)
+
 module _ (t : List ℕ) (i : ℕ) {p : Result (ℕ × ℕ) ℕ} (q : (p ≡ next_of t i) × Placed t i p) (x : List ℕ) where
   pub starts_at : {r : ℕ × ℕ} → p ≡ Ok r → {b : Bool} → b ≡ same x (part t r.0 r.1) → b ≡ starts_with x (prefix t 1 i)
   unfolding prefix
   starts_at {r} f h = h ∙ same_sym x (part t r.0 r.1) ∙ rw (← q.0, f)
 
   pub starts_not : {e : ℕ} → p ≡ Err e → false ≡ starts_with x (prefix t 1 i)
-  unfolding prefix
-  starts_not f = rw (← q.0, f)
+  starts_not {e} f = starts_over t i e x (sym f ∙ q.0)
 
   pub placed_at : {r : ℕ × ℕ} → p ≡ Ok r → (i ≤ r.0) × (r.0 < r.1) × (r.1 ≤ length t)
   placed_at f = subst (Placed t i) f q.1

@@ -1,5 +1,5 @@
 -- How long a name of a scope can be, by the most that a name at each depth adds.
-use Rattle.std.specs.Prelude.{ℕ, zero, suc, ◌+◌, ◌-◌, max, cond, List, [], eqb, length, get_or}
+use Rattle.std.specs.Prelude.{ℕ, zero, suc, ◌+◌, ◌-◌, ◌≤◌, ◌<◌, max, cond, List, [], eqb, length, get_or}
 use Rattle.scope.specs.Limits.{max_depth}
 use Rattle.scope.specs.Entries.{Entry, ParsingScope}
 use Rattle.scope.specs.Viewed.{no_entry}
@@ -13,6 +13,10 @@ most f (suc i) = max (most f i) (f i)
 unfoldable pub total : (ℕ → ℕ) → ℕ → ℕ → ℕ
 total f zero d = 0
 total f (suc n) d = f d + total f n (d + 1)
+
+-- Each name, with " . " behind it, has no more cells than the number at its depth.
+abbrev pub Covers : List ℕ → List Entry → Type 0
+Covers ws es = (i : ℕ) → i < length es → length (get_or es i no_entry).name + 3 ≤ get_or ws (get_or es i no_entry).depth 0
 
 -- What the name of the entry at place i adds to a key: its cells and those of " . ". Nothing if it stands at another depth than d.
 unfoldable pub width : List Entry → ℕ → ℕ → ℕ
