@@ -153,7 +153,7 @@ module _ (t : List ℕ) where
   prefix-take (suc m) zero i h = absurd (omega arith)
   prefix-take (suc m) (suc n) i h = take-leads m n (next_of t i) (λ e. prefix-take m n e (omega arith))
 
-  pub here_placed : (i : ℕ) → i ≤ length t → Placed t i (here_of t i)
+  here_placed : (i : ℕ) → i ≤ length t → Placed t i (here_of t i)
   unfolding here_of
   here_placed i h = by_test (Placed t i) (holds is_name_part (cell_at t i)) (λ a. let d = passed is_name_part t i h in (omega arith, passed_more d a, d.within))
       (λ _. by_test (Placed t i) (holds is_symbol (cell_at t i)) (λ b. let l = cell_there is_symbol t i b in (omega arith, omega arith, omega arith)) (λ _. (omega arith, h)))
